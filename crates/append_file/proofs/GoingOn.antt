@@ -11,8 +11,8 @@ use Rattle.cell_types.specs.declared.held_bytes.Content.{Content}
 use Rattle.volume_meaning.specs.Documents.{content_at}
 use Rattle.volume_meaning.specs.Slots.{cells_for}
 use Rattle.worm_device.specs.Views.{ViewState, Viewed}
-use Rattle.append_file.specs.Pieces.{IsBrokenAt, IsPiece, PieceEnds, held_bytes}
-use Rattle.append_file.specs.Reading.{ByteEnds, HasBroken, IsFront, IsPosition, HasRead, NextEnds, ended, left_over, one_given, first_given}
+use Rattle.append_file.specs.Pieces.{IsBrokenAt, IsPiece, ReadPieceEnds, held_bytes}
+use Rattle.append_file.specs.Reading.{ByteEnds, HasBroken, IsFront, IsPosition, HasRead, NextByteEnds, ended, left_over, one_given, first_given}
 use Rattle.append_file.specs.declared.piece.ContentFault.{ContentFault}
 use Rattle.append_file.specs.declared.piece.ContentFault.TheVariants.{Broken, ReadFault}
 use Rattle.append_file.specs.declared.position.Position.{Position}
@@ -66,7 +66,7 @@ module _ (v : ViewState) (start bytes : ℕ) (p : Position) (given : List ℕ) (
       })
 
   -- the first byte of the next cell
-  pub first_on : (w : ViewState) → Viewed v w → p.held.length ≤ p.given → 15 * p.read < bytes → (held : Content) → PieceEnds p.start p.bytes p.read v w (Ok held)
+  pub first_on : (w : ViewState) → Viewed v w → p.held.length ≤ p.given → 15 * p.read < bytes → (held : Content) → ReadPieceEnds p.start p.bytes p.read v w (Ok held)
       → (new : Position) (byte : ℕ) → byte ≡ slice_index held.bytes 0 → new ≡ first_given held p → HasRead w start bytes new (given ++ byte ∷ [])
   first_on w viewed all below held ends new byte byte_is new_is =
       let piece = held_bytes held in
@@ -108,12 +108,12 @@ module _ (v w : ViewState) (old new : Position) where
 
   -- a cell that was not read
   pub byte_fails : old.over ≡ false → new ≡ ended old → old.read < cells_for old.bytes → (fault : ContentFault)
-      → PieceEnds old.start old.bytes old.read v w (Err fault) → NextEnds v w old new (Some (Err fault))
+      → ReadPieceEnds old.start old.bytes old.read v w (Err fault) → NextByteEnds v w old new (Some (Err fault))
   byte_fails going over less Broken ends = (going, over, ends.0, λ tells. (less, ends.1 tells))
   byte_fails going over less ReadFault ends = (going, over, ends)
 
   -- where one more byte is asked for, there is one or a cell is broken
-  pub byte_ends : (asked : Option (Result ℕ ContentFault)) → NextEnds v w old new asked
+  pub byte_ends : (asked : Option (Result ℕ ContentFault)) → NextByteEnds v w old new asked
       → ByteEnds v w old new (unwrap_or asked (Err Broken))
   byte_ends (Some (Ok byte)) ends = (ends.1, ends.2)
   byte_ends (Some (Err Broken)) ends = (

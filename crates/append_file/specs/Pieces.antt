@@ -33,11 +33,11 @@ pub record HoldsPiece (bytes k : ℕ) (found : Option (List ℕ)) (held : Conten
   pub is : found ≡ Some (content_bytes (held_bytes held))
 
 -- how reading a cell may end, and why: no fault is counted but where the read failed
-abbrev pub PieceEnds : ℕ → ℕ → ℕ → ViewState → ViewState → Result Content ContentFault → Type 0
-PieceEnds start bytes k old new (Ok held) =
+abbrev pub ReadPieceEnds : ℕ → ℕ → ℕ → ViewState → ViewState → Result Content ContentFault → Type 0
+ReadPieceEnds start bytes k old new (Ok held) =
     (new.base.faults ≡ old.base.faults)
     × (held.length ≡ min 15 (bytes - 15 * k)) × IsPiece bytes k (held_bytes held)
     × (IsTrue old.base.tells → new.image (start + k) ≡ Some (content_bytes (held_bytes held)))
-PieceEnds start bytes k old new (Err Broken) =
+ReadPieceEnds start bytes k old new (Err Broken) =
     (new.base.faults ≡ old.base.faults) × (IsTrue old.base.tells → IsBrokenAt new.image start bytes k)
-PieceEnds start bytes k old new (Err ReadFault) = Rose old.base.faults new.base.faults
+ReadPieceEnds start bytes k old new (Err ReadFault) = Rose old.base.faults new.base.faults

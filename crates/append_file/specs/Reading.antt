@@ -115,17 +115,17 @@ pub record HasRead (v : ViewState) (start bytes : ℕ) (p : Position) (given : L
 
 -- How asking for a byte may end, and why: no fault is counted but where a read failed. A fault is told of the cell whose
 -- turn it was, and behind it there is no byte more.
-abbrev pub NextEnds : ViewState → ViewState → Position → Position → Option (Result ℕ ContentFault) → Type 0
-NextEnds v w old new (Some (Ok byte)) =
+abbrev pub NextByteEnds : ViewState → ViewState → Position → Position → Option (Result ℕ ContentFault) → Type 0
+NextByteEnds v w old new (Some (Ok byte)) =
     (old.over ≡ false) × (w.base.faults ≡ v.base.faults)
     × ((start bytes : ℕ) (given : List ℕ) → HasRead v start bytes old given
     → HasRead w start bytes new (given ++ byte ∷ []))
-NextEnds v w old new (Some (Err Broken)) =
+NextByteEnds v w old new (Some (Err Broken)) =
     (old.over ≡ false) × (new ≡ ended old) × (w.base.faults ≡ v.base.faults)
     × (IsTrue v.base.tells → (old.read < cells_for old.bytes) × IsBrokenAt w.image old.start old.bytes old.read)
-NextEnds v w old new (Some (Err ReadFault)) =
+NextByteEnds v w old new (Some (Err ReadFault)) =
     (old.over ≡ false) × (new ≡ ended old) × Rose v.base.faults w.base.faults
-NextEnds v w old new None =
+NextByteEnds v w old new None =
     (w.base.faults ≡ v.base.faults)
     × ((start bytes : ℕ) (given : List ℕ) → HasRead v start bytes old given
     → (length given ≡ bytes) × HasRead w start bytes new given)

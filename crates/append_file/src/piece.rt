@@ -1,6 +1,6 @@
 //! One cell of a document part.
 ghost use Rattle.std.specs.Prelude.{◌≡◌, ◌<◌, ◌≤◌, ◌+◌, ◌*◌, IfSome, IfNone, Some};
-ghost use Rattle.append_file.specs.Pieces.{HoldsPiece, IsNoPiece, PieceEnds};
+ghost use Rattle.append_file.specs.Pieces.{HoldsPiece, IsNoPiece, ReadPieceEnds};
 ghost use Rattle.append_file.specs.declared.piece.ContentFault.TheVariants as content_faults;
 ghost use Rattle.worm_device.specs.Views.{Viewed};
 
@@ -51,7 +51,7 @@ pub fn read_piece<V: View>(
     requires inside { start + place < (V.seen view.old).cells }
     ensures viewed { Viewed (V.seen view.old) (V.seen view.new) }
     ensures reads { (V.seen view.new).base.reads ≤ (V.seen view.old).base.reads + 1 }
-    ensures ends { PieceEnds start bytes place (V.seen view.old) (V.seen view.new) result }
+    ensures ends { ReadPieceEnds start bytes place (V.seen view.old) (V.seen view.new) result }
 {
     // That its cells are fewer than 2 to the 32 is known to those who ask.
     let _cells = view.cells();

@@ -1,6 +1,6 @@
 //! How far a document part was read.
 ghost use Rattle.std.specs.Prelude.{◌≡◌, ◌<◌, ◌≤◌, ◌+◌, [], slice_index, take};
-ghost use Rattle.append_file.specs.Reading.{ByteEnds, NextRowEnds, HasRead, IsPosition, NextEnds, at_start, ended, ended_behind, first_given, left_over, one_given, rest_given, row_given};
+ghost use Rattle.append_file.specs.Reading.{ByteEnds, NextRowEnds, HasRead, IsPosition, NextByteEnds, at_start, ended, ended_behind, first_given, left_over, one_given, rest_given, row_given};
 ghost use Rattle.volume_meaning.specs.Slots as slots;
 ghost use Rattle.worm_device.specs.Views.{ViewState, Viewed};
 
@@ -123,7 +123,7 @@ pub fn next_byte<V: View>(view: &mut V, position: &mut Position) -> Option<Resul
     ensures viewed { Viewed (V.seen view.old) (V.seen view.new) }
     ensures reads { (V.seen view.new).base.reads + position.old.read
         ≤ (V.seen view.old).base.reads + position.new.read }
-    ensures ends { NextEnds (V.seen view.old) (V.seen view.new) position.old position.new result }
+    ensures ends { NextByteEnds (V.seen view.old) (V.seen view.new) position.old position.new result }
 {
     if position.over {
         return None;

@@ -1,6 +1,6 @@
 //! A reader of a document part.
 ghost use Rattle.std.specs.Prelude.{◌≡◌, ◌≤◌, ◌+◌};
-ghost use Rattle.append_file.specs.Reading.{IsPosition, NextEnds, at_start};
+ghost use Rattle.append_file.specs.Reading.{IsPosition, NextByteEnds, at_start};
 ghost use Rattle.volume_meaning.specs.Slots.{cells_for};
 ghost use Rattle.worm_device.specs.Views.{Viewed};
 
@@ -41,7 +41,7 @@ impl<'a, V: View> Reader<'a, V> {
         ensures viewed { Viewed (V.seen self.old.view.now) (V.seen self.new.view.now) }
         ensures reads { (V.seen self.new.view.now).base.reads + self.old.position.read
             ≤ (V.seen self.old.view.now).base.reads + self.new.position.read }
-        ensures ends { NextEnds (V.seen self.old.view.now) (V.seen self.new.view.now)
+        ensures ends { NextByteEnds (V.seen self.old.view.now) (V.seen self.new.view.now)
             self.old.position self.new.position result }
     {
         next_byte(self.view, &mut self.position)

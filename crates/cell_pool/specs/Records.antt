@@ -2,7 +2,7 @@
 use Rattle.std.specs.Prelude.{◌≡◌, ◌≢◌, ℕ, Some, None, Result, Ok, Err}
 use Rattle.cell_types.specs.declared.record_cell.RecordCell.{RecordCell}
 use Rattle.volume_meaning.specs.Volumes.{Holds}
-use Rattle.worm_device.specs.Overlays.{PlansNothing}
+use Rattle.worm_device.specs.Overlays.{PlansNoMore}
 use Rattle.worm_device.specs.Views.{ViewState}
 use Rattle.worm_device.specs.declared.owner.Owner.{Owner}
 use Rattle.cell_pool.specs.declared.planning.PlanFault.{PlanFault}
@@ -16,10 +16,10 @@ pub record HoldsPlanned (at : ℕ) (r : RecordCell) (owner : Owner) (old new : V
   pub for_whom : new.owners at ≡ Some owner
 
 -- the record is planned; or the cell was planned already; or there is no memory
-abbrev pub RecordEnds : ℕ → RecordCell → Owner → ViewState → ViewState → Result Unit PlanFault → Type 0
-RecordEnds at r owner old new (Ok done) = HoldsPlanned at r owner old new
-RecordEnds at r owner old new (Err Taken) = (old.planned at ≡ None → ⊥) × PlansNothing old new
-RecordEnds at r owner old new (Err NoMemory) = PlansNothing old new
+abbrev pub PlanRecordEnds : ℕ → RecordCell → Owner → ViewState → ViewState → Result Unit PlanFault → Type 0
+PlanRecordEnds at r owner old new (Ok done) = HoldsPlanned at r owner old new
+PlanRecordEnds at r owner old new (Err Taken) = (old.planned at ≡ None → ⊥) × PlansNoMore old new
+PlanRecordEnds at r owner old new (Err NoMemory) = PlansNoMore old new
 
 -- Planning the cell of one record: what stands below, and what is planned in other cells, is as it was.
 pub record PlansRecord (at : ℕ) (r : RecordCell) (owner : Owner) (old new : ViewState) (result : Result Unit PlanFault)
@@ -31,4 +31,4 @@ pub record PlansRecord (at : ℕ) (r : RecordCell) (owner : Owner) (old new : Vi
   pub loans : new.loans ≡ old.loans
   pub others : (cell : ℕ) → cell ≢ at
       → (new.image cell ≡ old.image cell) × (new.planned cell ≡ old.planned cell) × (new.owners cell ≡ old.owners cell)
-  pub ends : RecordEnds at r owner old new result
+  pub ends : PlanRecordEnds at r owner old new result

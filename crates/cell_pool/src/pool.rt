@@ -12,7 +12,7 @@ pub struct Pool {
 }
 
 impl Pool {
-    ghost use Rattle.cell_pool.specs.Grants.{TakesFront, room_of};
+    ghost use Rattle.cell_pool.specs.Grants.{TakesFront, free_cells};
 
     /// The pool of the cells from one up to another.
     pub fn over(next: u32, end: u32) -> Pool
@@ -32,7 +32,7 @@ impl Pool {
 
     /// How many cells are free.
     pub fn room(&self) -> u32
-        ensures { result ≡ room_of self.now }
+        ensures { result ≡ free_cells self.now }
     {
         self.end - self.next
     }
@@ -41,7 +41,7 @@ impl Pool {
     /// is as it was.
     pub fn grant(&mut self, size: u32) -> Option<u32>
         requires { 1 ≤ size }
-        ensures full { IsNone result ↔ (room_of self.old < size) }
+        ensures full { IsNone result ↔ (free_cells self.old < size) }
         ensures granted { IfSome result (TakesFront self.old self.new size) }
         ensures unchanged { IfNone result (self.new ≡ self.old) }
     {

@@ -36,7 +36,7 @@ use Rattle.plan_writer.proofs.PutFrom.{volume_2}
 use Rattle.ingest_engine.specs.Formats.{FormatEnds}
 use Rattle.jump_insertion.specs.Evidence.{IsPastStamps}
 use Rattle.ingest_plan.specs.Planning.{IsLater}
-use Rattle.ingest_engine.specs.Ingesting.{HasFullPath, HasLaterStamp, HasNoRoom, HasNoSlot, HasSlot, IngestEnds, IsNamed, IsTaken, IsTooMany, StampEnds, TakesNoSuchStamp, by_plan, by_settling, in_index}
+use Rattle.ingest_engine.specs.Ingesting.{HasFullPath, HasLaterStamp, HasNoRoom, HasNoSlot, HasFreeSlot, IngestEnds, IsIngestEvidence, IsIdentifierTaken, IsTooMany, CheckStampEnds, TakesNoSuchStamp, by_plan, by_settling, in_index}
 use Rattle.ingest_engine.specs.Stamps.{IsStampBelow}
 use Rattle.ingest_engine.proofs.Named.{is_horizon, slot_still}
 use Rattle.ingest_engine.proofs.CrashedIngests.{ready_layout, settled_unused}
@@ -74,7 +74,7 @@ module _ {id : List ℕ} {stamp : Option ℕ} {body : List ℕ} {g : Layout} {sl
   no_such_stamp : (refusal : Refusal) → TakesNoSuchStamp stamp old new refusal → ⊥
   no_such_stamp refusal h = by_end refusal h.ends (takes h.ready h.settled)
     where
-      by_end : (refusal : Refusal) → StampEnds h.ready stamp (Err refusal) → IsStampFor h.ready.volume.geometry stamp → ⊥
+      by_end : (refusal : Refusal) → CheckStampEnds h.ready stamp (Err refusal) → IsStampFor h.ready.volume.geometry stamp → ⊥
       by_end refusals.StampNeeded ends takes =
           omega (arith, ends.0, subst (λ (s : Option ℕ). IsStampFor h.ready.volume.geometry s) ends.1 takes)
       by_end refusals.StampUnused ends takes =
@@ -124,7 +124,7 @@ module _ {id : List ℕ} {stamp : Option ℕ} {body : List ℕ} {g : Layout} {sl
       none-some taken.found (sym (stood ∙ unused.reserve) ∙ taken.stands)
 
   -- no document has the identifier
-  not_taken : (n : ℕ) → IsTaken id stamp n old new → ⊥
+  not_taken : (n : ℕ) → IsIdentifierTaken id stamp n old new → ⊥
   not_taken n h =
       let has = h.settled.settled in
       let held = h.holds begins.tells in
@@ -180,13 +180,13 @@ module _ {id : List ℕ} {stamp : Option ℕ} {body : List ℕ} {g : Layout} {sl
       omega (arith, room, h.free_is, h.less, ap (λ (l : Layout). l.cells) one)
 
   -- once the volume is settled no rule is broken in what stands
-  behind_unbroken : {e : Evidence} (r : Ready) → HasSlot stamp old new r → IsLicensed old new e → ⊥
+  behind_unbroken : {e : Evidence} (r : Ready) → HasFreeSlot stamp old new r → IsLicensed old new e → ⊥
   behind_unbroken {e} r slot licensed =
       looked_unbroken old new r e.rule e.cell device device_new begins.tells slot.settled
       begins.alone begins.steady (licensed.broken begins.alone)
 
   -- no tampering is named
-  untouched : (e : Evidence) → IsNamed id stamp body old new e → ⊥
+  untouched : (e : Evidence) → IsIngestEvidence id stamp body old new e → ⊥
   untouched e (by_settling settles found) = settling_named old new e device begins.tells settles
       begins.alone begins.steady
   untouched e (by_plan way) = behind_unbroken way.ready (slot_still way begins.alone) way.found.licensed

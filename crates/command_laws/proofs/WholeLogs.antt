@@ -14,7 +14,7 @@ use Rattle.worm_device.specs.Calls.{Called}
 use Rattle.worm_device.specs.State.{DeviceState}
 use Rattle.worm_device.proofs.Counting.{rose_or_still}
 use Rattle.commit_record.specs.Opening.{IsNoVolumeCell}
-use Rattle.recovery_engine.specs.Settling.{IsFound, IsSettlingRule, SettleEnds}
+use Rattle.recovery_engine.specs.Settling.{IsFoundBroken, IsSettlingRule, SettleEnds}
 use Rattle.crash_laws.specs.SettlingSteadiness.{IsSteady}
 use Rattle.command_laws.specs.WholeLogs.{HasSteadyVolume, HasWholeLog, IsUntampered, steady, unbroken}
 
@@ -47,7 +47,7 @@ module _ {IsLookedAt : ℕ → Type 0} {g : Layout} {old new : DeviceState} (who
       subst (λ (cells : ℕ). IsVolume cells new.image g) (sym called.cells) (volume_on called.image whole.volume)
 
   -- what is named of a steady device nobody names, and no rule that is looked at is broken
-  pub none_found : (e : Evidence) → (IsSteady old → ⊥) → IsFound IsLookedAt old new e → ⊥
+  pub none_found : (e : Evidence) → (IsSteady old → ⊥) → IsFoundBroken IsLookedAt old new e → ⊥
   none_found e alarm found = by_cause whole.untampered
     where
       by_cause : IsUntampered IsLookedAt old → ⊥

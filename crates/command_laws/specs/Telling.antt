@@ -4,7 +4,7 @@ use Rattle.volume_meaning.specs.Documents.{AreDocuments, Document}
 use Rattle.tamper_rules.specs.Settling.{Held, Settled}
 use Rattle.worm_device.specs.State.{DeviceState}
 use Rattle.crash_laws.specs.SettlingSteadiness.{StaysSteady}
-use Rattle.record_query.specs.Finding.{HasMatch, HasTerms, Rises}
+use Rattle.record_query.specs.Finding.{HasMatch, HasTerms, MatchesRise}
 use Rattle.record_query.specs.declared.found.Match.{Match}
 
 -- A crash in the command leaves an image that is blank or sound, with the documents that were sure at entry or those
@@ -23,7 +23,7 @@ pub record AreMatchesOf (s : DeviceState) (terms : List (List ℕ)) (documents :
   pub only : (found : Match) → Contains matches found → (body : List ℕ)
       × Contains documents (record { slot = found.slot; id = found.identifier; body = body })
       × (found.bytes ≡ length body) × HasTerms s.cells s.image body terms
-  pub rise : Rises 0 matches
+  pub rise : MatchesRise 0 matches
 
 -- the device is a settled volume without documents
 pub record IsFormatted (s : DeviceState) : Type 0 where

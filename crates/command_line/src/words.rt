@@ -56,7 +56,7 @@ pub fn command_of(words: &[String]) -> Option<Command<'_>>
     if let Some(command) = find_of(words) {
         return Some(command);
     }
-    if let Some(command) = look_up_of(words) {
+    if let Some(command) = lookup_of(words) {
         return Some(command);
     }
     if let Some(command) = recover_of(words) {
@@ -198,7 +198,7 @@ fn find_of(words: &[String]) -> Option<Command<'_>>
 }
 
 /// The command `lookup`, where the words are this and one that is not empty and begins with no hyphen.
-fn look_up_of(words: &[String]) -> Option<Command<'_>>
+fn lookup_of(words: &[String]) -> Option<Command<'_>>
     ensures some { IfSome result (λ command. Asks (map string_bytes words.now) (request_of command)) }
     ensures none { IfNone result ((id : List ℕ) → AsksToLookUp (map string_bytes words.now) id → ⊥) }
 {

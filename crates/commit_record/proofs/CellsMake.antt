@@ -10,7 +10,7 @@ use Rattle.volume_meaning.specs.Slots.{IsStamped, cells_for}
 use Rattle.volume_meaning.specs.Volumes.{Holds}
 use Rattle.tamper_rules.specs.Rules.{IsPlaceOf, ReserveCells, OutcomeCells, DoneCells}
 use Rattle.tamper_rules.specs.declared.numbers.TheConstants.{RESERVE_CELL, OUTCOME_CELL, DONE_CELL}
-use Rattle.commit_record.specs.SlotCells.{CellsEnd, IsStampMissing, IsStampThere, SeenCells, SeenCommitted, SeenReserved, SeenStamp, SeenUnreserved, cell_of}
+use Rattle.commit_record.specs.SlotCells.{CellsEnd, IsStampMissing, IsStampThere, SeenCells, SeenCommitted, SeenReserved, SeenStamp, SeenUnreserved, found_cell}
 use Rattle.commit_record.specs.States.{LacksStamp, reserves_none, ends_unreserved, ends_wrongly, ends_unstamped, done_unreserved, done_unended, done_abandoned, done_wrongly}
 use Rattle.worm_device.specs.declared.looks.Found.{Found}
 use Rattle.worm_device.specs.declared.looks.Found.TheVariants.{Blank, Record, Stray}
@@ -40,7 +40,7 @@ evidence rule cell found = record { rule = rule; cell = cell; found = found }
 pub record IsLateDone (n : ℕ) (done : Found) (e : Evidence) : Type 0 where
   pub rule : e.rule ≡ DONE_CELL
   pub cell : e.cell ≡ done_at n
-  pub found : cell_of done ≡ Some e.found
+  pub found : found_cell done ≡ Some e.found
 
 -- where a stamp was found in its cell, the slot has it
 stamp_there : (g : Layout) (n : ℕ) (stamp : Option Found) (before after : Image) → IsStampThere stamp
@@ -103,7 +103,7 @@ module _ (g : Layout) (n : ℕ) (less : n < g.slots) (reserve outcome done : Fou
   )
 
   -- an outcome cell stands, and nothing is reserved
-  pub outcome_unreserved : (at : ℕ) (found : List ℕ) → at ≡ outcome_at n → cell_of outcome ≡ Some found
+  pub outcome_unreserved : (at : ℕ) (found : List ℕ) → at ≡ outcome_at n → found_cell outcome ≡ Some found
       → CellsEnd (SeenUnreserved n outcome done) g n (Err (evidence OUTCOME_CELL at found))
   outcome_unreserved at found e is = (
     outcome_place at e,
@@ -115,7 +115,7 @@ module _ (g : Layout) (n : ℕ) (less : n < g.slots) (reserve outcome done : Fou
   )
 
   -- a done cell stands, and nothing is reserved
-  pub done_without_reserve : (e : Evidence) → cell_of outcome ≡ None → IsLateDone n done e
+  pub done_without_reserve : (e : Evidence) → found_cell outcome ≡ None → IsLateDone n done e
       → CellsEnd (SeenUnreserved n outcome done) g n (Err e)
   done_without_reserve e blank late = (
     done_place e.rule e.cell late.rule late.cell,
@@ -163,7 +163,7 @@ module _ (g : Layout) (n : ℕ) (less : n < g.slots) (reserve outcome done : Fou
       λ before after seen. (
         ap after late.cell ∙ stands before after (done_at n) done e.found seen.2 late.found,
         done_unended start length late.rule late.cell seen.0 (was_blank before after (outcome_at n) outcome seen.1
-            (ap cell_of blank)),
+            (ap found_cell blank)),
       ),
     )
 
@@ -262,7 +262,7 @@ module _ (g : Layout) (n : ℕ) (less : n < g.slots) (reserve outcome done : Fou
   unreserved result blank =
       narrower (SeenUnreserved n outcome done) (SeenCells g n reserve outcome done stamp) g n result
       (λ before after seen. (
-        was_blank before after (reserve_at n) reserve seen.0 (ap cell_of blank),
+        was_blank before after (reserve_at n) reserve seen.0 (ap found_cell blank),
         seen.1,
         seen.2,
       ))

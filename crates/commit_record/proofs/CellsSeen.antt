@@ -11,7 +11,7 @@ use Rattle.volume_meaning.specs.Volumes.{Holds}
 use Rattle.volume_meaning.proofs.Extending.{blank_before}
 use Rattle.volume_meaning.proofs.Holding.{one_record_holds, some_is}
 use Rattle.worm_device.specs.Looks.{IsSeen}
-use Rattle.commit_record.specs.SlotCells.{SeenStamp, cell_of}
+use Rattle.commit_record.specs.SlotCells.{SeenStamp, found_cell}
 use Rattle.worm_device.specs.declared.looks.Found.{Found}
 use Rattle.worm_device.specs.declared.looks.Found.TheVariants.{Blank, Record, Stray}
 
@@ -21,14 +21,14 @@ handed r e h = let q = err_from_is_err_and r h in q.1 ∙ ap Err q.2
 
 module _ (before after : Image) (at : ℕ) where
   -- a written cell stands in the later image
-  pub stands : (found : Found) (cell : List ℕ) → IsSeen before after at found → cell_of found ≡ Some cell
+  pub stands : (found : Found) (cell : List ℕ) → IsSeen before after at found → found_cell found ≡ Some cell
       → after at ≡ Some cell
   stands Blank cell seen is = absurd (none-some cell is)
   stands (Record other held) cell seen is = seen.0 ∙ is
   stands (Stray other) cell seen is = seen.0 ∙ is
 
   -- a blank one was blank in the earlier image
-  pub was_blank : (found : Found) → IsSeen before after at found → cell_of found ≡ None → before at ≡ None
+  pub was_blank : (found : Found) → IsSeen before after at found → found_cell found ≡ None → before at ≡ None
   was_blank Blank seen is = seen
   was_blank (Record cell held) seen is = absurd (none-some cell (sym is))
   was_blank (Stray cell) seen is = absurd (none-some cell (sym is))
@@ -36,7 +36,7 @@ module _ (before after : Image) (at : ℕ) where
   module _ (found : Found) (cell : List ℕ) (seen : IsSeen before after at found) where
     -- a record stands
     pub record_stands : (held : RecordCell) → found ≡ Record cell held → after at ≡ Some cell
-    record_stands held is = stands found cell seen (ap cell_of is)
+    record_stands held is = stands found cell seen (ap found_cell is)
 
     -- and is held
     pub record_held : (held : RecordCell) → found ≡ Record cell held → Holds after at held
@@ -50,7 +50,7 @@ module _ (before after : Image) (at : ℕ) where
 
     -- a stray cell stands
     pub stray_stands : found ≡ Stray cell → after at ≡ Some cell
-    stray_stands is = stands found cell seen (ap cell_of is)
+    stray_stands is = stands found cell seen (ap found_cell is)
 
     -- and holds no record
     pub stray_none : found ≡ Stray cell → (r : RecordCell) → Holds after at r → ⊥

@@ -12,8 +12,8 @@ use Rattle.worm_device.proofs.Counting.{still_first, still_second}
 use Rattle.worm_device.proofs.Resting.{rests_of, viewed_then}
 use Rattle.worm_device.specs.Looks.{IsOfCell, IsSeen, LookEnds}
 use Rattle.commit_record.specs.Partition.{HasRoom}
-use Rattle.commit_record.specs.SlotCells.{CellsEnd, SeenCells, StampSeen, cell_of}
-use Rattle.commit_record.specs.States.{AsksBelow, LiesInPool, Shows, StateEnds}
+use Rattle.commit_record.specs.SlotCells.{CellsEnd, SeenCells, StampSeen, found_cell}
+use Rattle.commit_record.specs.States.{AsksSlotBelow, StateLiesInPool, ShowsBroken, StateEnds}
 use Rattle.worm_device.specs.declared.looks.Found.{Found}
 use Rattle.worm_device.specs.declared.looks.Found.TheVariants.{Blank, Record, Stray}
 use Rattle.commit_record.specs.declared.slot.SlotState.{SlotState}
@@ -22,7 +22,7 @@ use Rattle.commit_record.proofs.Breaking.{breaks}
 use Rattle.commit_record.proofs.CellsSeen.{seen_further, seen_same, stamp_further, stamp_same}
 
 -- a state whose cells lie in the pool has room for its document and its journal
-pub room : (g : Layout) (state : SlotState) → LiesInPool g state → HasRoom state
+pub room : (g : Layout) (state : SlotState) → StateLiesInPool g state → HasRoom state
 room g Unused lies = tt
 room g (Reserved start length) lies = tt
 room g (Abandoned start length) lies = tt
@@ -38,13 +38,13 @@ look_at at number old new found e ends = subst (λ (n : ℕ). LookEnds n old new
 -- a cell that was read before, and stands there now, as a look at it
 pub read_before : (n number : ℕ) (cell : List ℕ) (found : Found) (now : ViewState) → number ≡ reserve_at n
     → IsOfCell number found
-    → cell_of found ≡ Some cell → (IsTrue now.base.tells → now.image (reserve_at n) ≡ Some cell)
+    → found_cell found ≡ Some cell → (IsTrue now.base.tells → now.image (reserve_at n) ≡ Some cell)
     → LookEnds (reserve_at n) now now (Ok found)
 read_before n number cell found now at of is stands =
     let here : IsOfCell (reserve_at n) found = subst (λ (k : ℕ). IsOfCell k found) at of in
     (here, refl, λ tells. seen_before found here is (stands tells))
   where
-    seen_before : (f : Found) → IsOfCell (reserve_at n) f → cell_of f ≡ Some cell
+    seen_before : (f : Found) → IsOfCell (reserve_at n) f → found_cell f ≡ Some cell
         → now.image (reserve_at n) ≡ Some cell → IsSeen now.image now.image (reserve_at n) f
     seen_before Blank of is stands = stands ∙ sym is
     seen_before (Record other held) of is stands = (stands ∙ sym is, of)
@@ -117,7 +117,7 @@ module _ (g : Layout) (n : ℕ) (v0 v1 v2 v3 v4 : ViewState) (reserve outcome do
     -- in an image that has in the slot's cells what the view shows there
     shows_in : (image : Image) → IsTrue v0.base.tells → image (reserve_at n) ≡ v4.image (reserve_at n)
         → image (outcome_at n) ≡ v4.image (outcome_at n) → image (done_at n) ≡ v4.image (done_at n)
-        → image (spare_at n) ≡ v4.image (spare_at n) → Shows g v0 v4 image e
+        → image (spare_at n) ≡ v4.image (spare_at n) → ShowsBroken g v0 v4 image e
     shows_in image tells same_r same_o same_d same_t =
         let s = seen tells in
         let later : SeenCells g n reserve outcome done stamp v0.image image = (
@@ -142,7 +142,7 @@ module _ (g : Layout) (n : ℕ) (v0 v1 v2 v3 v4 : ViewState) (reserve outcome do
         }
 
     -- what stands below is what is shown, where it was asked for
-    below_same : AsksBelow n v0 → (at : ℕ) → v0.planned at ≡ None → at ≤ spare_at n → v4.lower at ≡ v4.image at
+    below_same : AsksSlotBelow n v0 → (at : ℕ) → v0.planned at ≡ None → at ≤ spare_at n → v4.lower at ≡ v4.image at
     below_same asks at blank before =
         let planned : v4.planned at ≡ None = subst (λ (p : Image). p at ≡ None) (sym kept.planned) blank in
         let fresh : at < v4.fresh = omega (arith, before, asks.fresh, kept.fresh) in

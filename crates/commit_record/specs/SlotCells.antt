@@ -12,16 +12,16 @@ use Rattle.worm_device.specs.Counts.{Rose}
 use Rattle.worm_device.specs.Looks.{IsSeen}
 use Rattle.worm_device.specs.Views.{ViewState}
 use Rattle.worm_device.specs.declared.device.Failed.{Failed}
-use Rattle.commit_record.specs.States.{IsNoState, IsState, LiesInPool}
+use Rattle.commit_record.specs.States.{IsNoState, IsState, StateLiesInPool}
 use Rattle.worm_device.specs.declared.looks.Found.{Found}
 use Rattle.worm_device.specs.declared.looks.Found.TheVariants.{Blank, Record, Stray}
 use Rattle.commit_record.specs.declared.slot.SlotState.{SlotState}
 
 -- the bytes that were found, if the cell is written
-abbrev pub cell_of : Found → Option (List ℕ)
-cell_of Blank = None
-cell_of (Record cell held) = Some cell
-cell_of (Stray cell) = Some cell
+abbrev pub found_cell : Found → Option (List ℕ)
+found_cell Blank = None
+found_cell (Record cell held) = Some cell
+found_cell (Stray cell) = Some cell
 
 -- this was found in slot n's stamp cell, which is looked at where documents are stamped, and not on another volume
 abbrev pub SeenStamp : Layout → ℕ → Option Found → Image → Image → Type 0
@@ -77,7 +77,7 @@ SeenCommitted g n start length bytes journal done before after =
 -- What cells of slot n make that were seen in this way: a state, or the first of them that is out of place.
 abbrev pub CellsEnd : (Image → Image → Type 0) → Layout → ℕ → Result SlotState Evidence → Type 0
 CellsEnd Seen g n (Ok state) =
-    LiesInPool g state × ((before after : Image) → Seen before after → IsState g before after n state)
+    StateLiesInPool g state × ((before after : Image) → Seen before after → IsState g before after n state)
 CellsEnd Seen g n (Err e) =
     IsPlaceOf g e.rule e.cell
     × ((before after : Image) → Seen before after

@@ -27,13 +27,13 @@ IsStampOrNone image n None = (seconds : ℕ) → HasStamp image n seconds → �
 IsStampOrNone image n (Some seconds) = HasStamp image n seconds
 
 -- How reading slot n's stamp may end. The read was made at the later of the two states, and answers what stands there.
-abbrev pub StampEnds : ℕ → ViewState → ViewState → Result (Option ℕ) Failed → Type 0
-StampEnds n old new (Ok stamp) =
+abbrev pub ReadStampEnds : ℕ → ViewState → ViewState → Result (Option ℕ) Failed → Type 0
+ReadStampEnds n old new (Ok stamp) =
     (new.base.faults ≡ old.base.faults) × (IsTrue old.base.tells → IsStampOrNone new.image n stamp)
-StampEnds n old new (Err failed) = Rose old.base.faults new.base.faults
+ReadStampEnds n old new (Err failed) = Rose old.base.faults new.base.faults
 
 -- it costs one read at most
 pub record ReadsStamp (n : ℕ) (old new : ViewState) (result : Result (Option ℕ) Failed) : Type 0 where
   pub viewed : Viewed old new
   pub reads : new.base.reads ≤ old.base.reads + 1
-  pub ends : StampEnds n old new result
+  pub ends : ReadStampEnds n old new result

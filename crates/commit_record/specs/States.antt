@@ -37,12 +37,12 @@ FitsInto length bytes journal =
     (MIN_STORED_BYTES ≤ bytes) × (bytes ≤ MAX_STORED_BYTES) × (1 ≤ journal) × (cells_for bytes + journal ≤ length)
 
 -- the cells that the state names lie in the pool, and its document and journal fit into them
-abbrev pub LiesInPool : Layout → SlotState → Type 0
-LiesInPool g Unused = ⊤
-LiesInPool g (Reserved start length) = AreOfPool g start length
-LiesInPool g (Abandoned start length) = AreOfPool g start length
-LiesInPool g (Committed start length bytes journal) = AreOfPool g start length × FitsInto length bytes journal
-LiesInPool g (Done start length bytes journal) = AreOfPool g start length × FitsInto length bytes journal
+abbrev pub StateLiesInPool : Layout → SlotState → Type 0
+StateLiesInPool g Unused = ⊤
+StateLiesInPool g (Reserved start length) = AreOfPool g start length
+StateLiesInPool g (Abandoned start length) = AreOfPool g start length
+StateLiesInPool g (Committed start length bytes journal) = AreOfPool g start length × FitsInto length bytes journal
+StateLiesInPool g (Done start length bytes journal) = AreOfPool g start length × FitsInto length bytes journal
 
 -- how many cells of a slot hold a stamp: one where documents are stamped, and none before
 abbrev pub stamp_cells : Layout → ℕ
@@ -88,7 +88,7 @@ pub data IsNoState (g : Layout) (before after : Image) (n rule cell : ℕ) : Typ
 
 -- What the view shows of slot n's four cells is what stands below it: none of them is planned, and each is asked for
 -- below. So it is with every view of a device and no planned cells.
-pub record AsksBelow (n : ℕ) (view : ViewState) : Type 0 where
+pub record AsksSlotBelow (n : ℕ) (view : ViewState) : Type 0 where
   pub reserve : view.planned (reserve_at n) ≡ None
   pub outcome : view.planned (outcome_at n) ≡ None
   pub done : view.planned (done_at n) ≡ None
@@ -97,7 +97,7 @@ pub record AsksBelow (n : ℕ) (view : ViewState) : Type 0 where
 
 -- The evidence stands in this image; and where nobody else wrote, and cell 0 states this layout, its rule is broken
 -- there. Without this layout another volume's cells would be spoken of.
-pub record Shows (g : Layout) (old new : ViewState) (image : Image) (e : Evidence) : Type 0 where
+pub record ShowsBroken (g : Layout) (old new : ViewState) (image : Image) (e : Evidence) : Type 0 where
   pub stands : image e.cell ≡ Some e.found
   pub broken : IsStill old.base.foreign_writes new.base.foreign_writes → IsVolume new.cells image g
       → IsBroken new.cells image e.rule e.cell
@@ -106,13 +106,13 @@ pub record Shows (g : Layout) (old new : ViewState) (image : Image) (e : Evidenc
 -- what the view shows has the evidence, and so has what stands below it, where the slot's cells were asked for there.
 pub record IsOutOfPlace (g : Layout) (n : ℕ) (old new : ViewState) (e : Evidence) : Type 0 where
   pub seen : IsNoState g old.image new.image n e.rule e.cell
-  pub shown : Shows g old new new.image e
-  pub below : AsksBelow n old → Shows g old new new.lower e
+  pub shown : ShowsBroken g old new new.image e
+  pub below : AsksSlotBelow n old → ShowsBroken g old new new.lower e
 
 -- how a look at a slot may end, and why
 abbrev pub StateEnds : Layout → ℕ → ViewState → ViewState → Result SlotState Fault → Type 0
 StateEnds g n old new (Ok state) =
-    LiesInPool g state × (new.base.faults ≡ old.base.faults)
+    StateLiesInPool g state × (new.base.faults ≡ old.base.faults)
     × (IsTrue old.base.tells → IsState g old.image new.image n state)
 StateEnds g n old new (Err Failed) = Rose old.base.faults new.base.faults
 StateEnds g n old new (Err (Tampered e)) =

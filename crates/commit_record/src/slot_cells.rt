@@ -7,7 +7,7 @@ ghost use Rattle.volume_meaning.specs.Slots.{cells_for};
 ghost use Rattle.tamper_rules.specs.declared.numbers.TheConstants.{DONE_CELL};
 ghost use Rattle.worm_device.specs.Looks.{IsOfCell};
 ghost use Rattle.commit_record.specs.Reservations.{reservation_of};
-ghost use Rattle.commit_record.specs.SlotCells.{CellsEnd, HoldsStamp, IsStampMissing, IsStampThere, SeenCells, SeenCommitted, SeenReserved, SeenUnreserved, cell_of};
+ghost use Rattle.commit_record.specs.SlotCells.{CellsEnd, HoldsStamp, IsStampMissing, IsStampThere, SeenCells, SeenCommitted, SeenReserved, SeenUnreserved, found_cell};
 ghost use Rattle.commit_record.specs.States.{AreOfPool, FitsInto};
 
 use crate::slot::SlotState;
@@ -29,7 +29,7 @@ pub fn state_of_cells(
     requires slot { slot < geometry.now.slots }
     requires reserve { IsOfCell (reserve_at slot) reserve }
     requires outcome { IsOfCell (outcome_at slot) outcome }
-    ensures used { IsSome (cell_of reserve) → IfOk result (λ state. IsSome (reservation_of state)) }
+    ensures used { IsSome (found_cell reserve) → IfOk result (λ state. IsSome (reservation_of state)) }
     ensures ends { CellsEnd (SeenCells geometry.now slot reserve outcome done stamp) geometry.now slot result }
 {
     let (found, held) = match reserve {
@@ -174,9 +174,9 @@ fn state_committed(
 /// Ok where the done cell is blank: the slot has nothing that could be done.
 fn no_done_cell(geometry: &Geometry, slot: u32, done: &Found) -> Result<(), Evidence>
     requires { slot < geometry.now.slots }
-    ensures blank { OnOk result (cell_of done.now ≡ None) }
+    ensures blank { OnOk result (found_cell done.now ≡ None) }
     ensures written { IfErr result (λ e.
-        (e.rule ≡ DONE_CELL) × (e.cell ≡ done_at slot) × (cell_of done.now ≡ Some e.found)) }
+        (e.rule ≡ DONE_CELL) × (e.cell ≡ done_at slot) × (found_cell done.now ≡ Some e.found)) }
 {
     match written_cell(done) {
         None => Ok(()),
@@ -191,7 +191,7 @@ fn no_done_cell(geometry: &Geometry, slot: u32, done: &Found) -> Result<(), Evid
 /// What stands in a cell of this number that is written.
 pub fn found_there(cell: Cell, at: u32) -> Found
     ensures of { IsOfCell at result }
-    ensures cell { cell_of result ≡ Some cell }
+    ensures cell { found_cell result ≡ Some cell }
 {
     match decode(cell, at) {
         Some(held) => Found::Record(cell, held),
@@ -201,7 +201,7 @@ pub fn found_there(cell: Cell, at: u32) -> Found
 
 /// What stands in the cell, where it is written.
 fn written_cell(found: &Found) -> Option<Cell>
-    ensures { result ≡ cell_of found.now }
+    ensures { result ≡ found_cell found.now }
 {
     match *found {
         Found::Blank => None,

@@ -33,7 +33,7 @@ use Rattle.plan_writer.specs.declared.plan.Plan.{Plan}
 use Rattle.plan_writer.proofs.LogCells.{done_in}
 use Rattle.plan_writer.proofs.PutFrom as from
 use Rattle.ingest_engine.specs.Ingesting as ingesting
-use Rattle.ingest_engine.specs.Ingesting.{ComesTo, IsIngested, IsPlanFor, document_in}
+use Rattle.ingest_engine.specs.Ingesting.{IngestComesTo, IsIngested, IsPlanFor, document_in}
 use Rattle.crash_laws.specs.SettlingSteadiness.{IsSteady}
 use Rattle.crash_laws.specs.Steadiness.{HasOneMore}
 use Rattle.crash_laws.proofs.PlanPhases.{most_order, put_row, row_put}
@@ -224,7 +224,7 @@ module _ (id : List ℕ) (stamp : Option ℕ) (body : List ℕ) (old new : Devic
           (one_layout is.layout k is.volume (volume_on device_new.sure volume)) is.stamped);
     }
 
-  pub comes_more : ComesTo id stamp body old new → HasOneMore id stamp body n old new
+  pub comes_more : IngestComesTo id stamp body old new → HasOneMore id stamp body n old new
   comes_more (ingesting.nothing same) = absurd (not_before reserve_stands.0
       (subst (λ (s : DeviceState). s.image (reserve_at n) ≡ Some reserve_stands.0) same reserve_stands.1))
   comes_more (ingesting.settling refusal s) = absurd (not_before reserve_stands.0

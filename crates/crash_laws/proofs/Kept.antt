@@ -20,7 +20,7 @@ use Rattle.recovery_engine.specs.Settling.{HasSettled}
 use Rattle.recovery_engine.specs.declared.settling.Ready.{Ready}
 use Rattle.plan_writer.proofs.PutFrom as from
 use Rattle.ingest_engine.specs.Ingesting as ingesting
-use Rattle.ingest_engine.specs.Ingesting.{ComesTo, IngestEnds, Ingests, put, settled, settling}
+use Rattle.ingest_engine.specs.Ingesting.{IngestComesTo, IngestEnds, Ingests, put, settled, settling}
 use Rattle.crash_laws.specs.SettlingSteadiness.{IsSteady}
 use Rattle.crash_laws.proofs.LeftWhole.{held_unmoved, settling_keeps}
 use Rattle.crash_laws.proofs.LookedAt.{looking_keeps}
@@ -40,7 +40,7 @@ module _ (id : List ℕ) (stamp : Option ℕ) (body : List ℕ) (old new : Devic
 
   -- a plan is put only where a volume of the device's size stood
   module _ (none_stood : (g : Layout) → IsVolume old.cells old.image g → ⊥) where
-    comes_keeps : ComesTo id stamp body old new → Held new.cells new.image documents
+    comes_keeps : IngestComesTo id stamp body old new → Held new.cells new.image documents
     comes_keeps (ingesting.nothing same) = unmoved same
     comes_keeps (settling refusal s) = subst (λ (k : ℕ). Held k new.image documents) (sym s.called.cells)
         (settling_keeps old new (Err refusal) device device_new tells s still steady documents held)
@@ -48,7 +48,7 @@ module _ (id : List ℕ) (stamp : Option ℕ) (body : List ℕ) (old new : Devic
     comes_keeps (put looked r p h device_looked less plans puts) = absurd (none_stood r.volume.geometry
         (from.volume_0 r h tells less (still_first (from.called r h).foreign_writes puts.called.foreign_writes still)))
 
-  pub refused_keeps : (refusal : Refusal) → refusal ≢ refusals.DeviceFault → ComesTo id stamp body old new
+  pub refused_keeps : (refusal : Refusal) → refusal ≢ refusals.DeviceFault → IngestComesTo id stamp body old new
       → IngestEnds id stamp body old new (Err refusal) → Held new.cells new.image documents
   refused_keeps refusals.DeviceFault other comes ends = absurd (other refl)
   refused_keeps (refusals.Tampered e) other comes ends = absurd (none_named old new e device device_new tells still steady

@@ -15,7 +15,7 @@ use Rattle.recovery_engine.specs.Ending.{abandon_put, done_put}
 use Rattle.recovery_engine.specs.Journal.{IsEntryPut}
 use Rattle.recovery_engine.specs.Settling.{settle_plan}
 use Rattle.recovery_engine.specs.Entries.{target_of}
-use Rattle.tamper_rules.specs.Journals.{journal_at, Copies}
+use Rattle.tamper_rules.specs.Journals.{journal_at, CopiesIndexCell}
 use Rattle.tamper_rules.specs.Settling.{IsSettled, Settled, IsOneHorizon, IsWith, AbandonRow, JournalRow, DoneRow, After, nothing, abandoned, completed}
 use Rattle.volume_meaning.specs.Slots.{IsReserved, IsCommitted, IsAbandonedSlot, IsDoneSlot, HasEnded, IsHorizon}
 use Rattle.volume_meaning.specs.Volumes.{Holds, IsVolume}
@@ -34,7 +34,7 @@ pub record GivesUp (g : Layout) (image after : Image) (n : ℕ) : Type 0 where
 pub record Completes (g : Layout) (image after : Image) (n start reserved journal : ℕ) : Type 0 where
   pub one : IsOneHorizon g image (n + 1)
   pub copies : (k : ℕ) → k < journal → (target : ℕ) × (copied : RecordCell)
-      × Copies image start reserved journal k target copied × (lists_at g ≤ target)
+      × CopiesIndexCell image start reserved journal k target copied × (lists_at g ≤ target)
   pub rows : IsWith (λ cell value. JournalRow image start reserved journal cell value
       ⊎ DoneRow n cell value) image after
 
@@ -178,7 +178,7 @@ module _ {cells : ℕ} {old : Image} (g : Layout) (v : IsVolume cells old g) (n 
 
       -- where a journal cell goes
       target_is : (k cell : ℕ) (value : List ℕ) (copied : RecordCell)
-          → Copies old start reserved journal k cell copied → old (journal_at start reserved journal + k) ≡ Some value
+          → CopiesIndexCell old start reserved journal k cell copied → old (journal_at start reserved journal + k) ≡ Some value
           → target_of value ≡ cell
       target_is k cell value copied x stands =
           let same : x.entry ≡ value = some_is x.entry value (sym x.stands ∙ stands) in
@@ -197,7 +197,7 @@ module _ {cells : ℕ} {old : Image} (g : Layout) (v : IsVolume cells old g) (n 
               place = x.0;
               copied = o.1;
               copies = subst
-                  (λ (t : ℕ). Copies old start reserved journal x.0 t o.1) target o.2;
+                  (λ (t : ℕ). CopiesIndexCell old start reserved journal x.0 t o.1) target o.2;
               stands = stands;
             },
             omega (arith, o.3, target),

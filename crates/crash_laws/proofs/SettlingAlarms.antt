@@ -13,7 +13,7 @@ use Rattle.worm_device.proofs.Images.{extends_self}
 use Rattle.tamper_rules.proofs.SettledLaws.{unbroken}
 use Rattle.cell_types.specs.Image.{Image}
 use Rattle.recovery_engine.specs.LastSlot.{IsSlotRule}
-use Rattle.recovery_engine.specs.Settling.{HasSettled, IsFound, IsSettlingRule, Settles}
+use Rattle.recovery_engine.specs.Settling.{HasSettled, IsFoundBroken, IsSettlingRule, Settles}
 use Rattle.recovery_engine.specs.declared.settling.Ready.{Ready}
 use Rattle.crash_laws.specs.SettlingSteadiness.{IsSteady}
 use Rattle.crash_laws.proofs.LookedAt.{looked_ends, looked_sound}
@@ -40,7 +40,7 @@ settling_named old new e device tells settles still steady = ⊎_elim
     b)
     found.rule
   where
-    found : IsFound IsSettlingRule old new e
+    found : IsFoundBroken IsSettlingRule old new e
     found = settles.ends tells
 
     broken : IsBroken old.cells old.image e.rule e.cell

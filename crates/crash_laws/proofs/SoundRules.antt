@@ -13,7 +13,7 @@ use Rattle.volume_meaning.specs.Slots.{HasStamp, IsStamped, cells_for, Commits, 
 use Rattle.volume_meaning.specs.Volumes.{Holds, IsVolume, IsWritten}
 use Rattle.volume_meaning.proofs.Extending.{blank_before, commits_on, holds_on, volume_on, written_on}
 use Rattle.volume_meaning.proofs.Holding.{some_is}
-use Rattle.tamper_rules.specs.Journals.{Copies, IsInOrder, IsIndexCell, IsIndexRecord, journal_at, of_list, of_root, of_slot}
+use Rattle.tamper_rules.specs.Journals.{CopiesIndexCell, IsInOrder, IsIndexCell, IsIndexRecord, journal_at, of_list, of_root, of_slot}
 use Rattle.tamper_rules.specs.Rules
 use Rattle.tamper_rules.specs.Rules.{DocumentRule, DoneRule, IsBroken, IsMet, JournalRule, OutcomeRule, RedoneRule, ReserveRule, Rule, number_of}
 use Rattle.tamper_rules.specs.Settling.{AbandonRow, After, DoneRow, IsSettled, JournalRow, Settled, Sound, abandoned, completed, nothing}
@@ -91,7 +91,7 @@ module _ {g : Layout} {image after : Image} (e : Extends image after) (s : IsSet
     rule = s.met Rules.Targets cell here
 
     module _ (start reserved journal place target : ℕ) (copied : RecordCell)
-        (c : Copies image start reserved journal place target copied)
+        (c : CopiesIndexCell image start reserved journal place target copied)
         (at : cell ≡ journal_at start reserved journal + place) where
       entry_is : c.entry ≡ other.value
       entry_is = some_is c.entry other.value (sym c.stands ∙ ap image (sym at) ∙ other.stands)
@@ -252,8 +252,8 @@ module _ {g : Layout} {image after : Image} (e : Extends image after) (s : IsSet
 
     -- a journal cell whose target lies before it stood: settling adds no copy of another cell
     copy_stood : {start reserved journal place target : ℕ} {copied : RecordCell}
-        → target < journal_at start reserved journal → Copies after start reserved journal place target copied
-        → Copies image start reserved journal place target copied
+        → target < journal_at start reserved journal → CopiesIndexCell after start reserved journal place target copied
+        → CopiesIndexCell image start reserved journal place target copied
     copy_stood {start} {reserved} {journal} {place} {target} {copied} low c = record {
       below = c.below;
       entry = c.entry;
@@ -293,7 +293,7 @@ module _ {g : Layout} {image after : Image} (e : Extends image after) (s : IsSet
       copies = copy_stood (omega (arith, o.before_document)) o.copies;
       rises = ⊎_elim inl
           (λ (r : (before : ℕ) × (lower : ℕ) × (other : RecordCell) × (place ≡ before + 1)
-          × Copies after start reserved journal before lower other × (lower < o.target)).
+          × CopiesIndexCell after start reserved journal before lower other × (lower < o.target)).
           inr (r.0, r.1, r.2, r.3, copy_stood (omega (arith, r.5, o.before_document)) r.4, r.5))
           o.rises;
       before_document = o.before_document;

@@ -3,7 +3,7 @@ use Rattle.std.proofs.Common.{ℕ, List, ◌∙◌, Option}
 use Rattle.std.specs.Prelude.{IsTrue}
 use Rattle.worm_device.specs.Counts.{IsStill}
 use Rattle.worm_device.specs.State.{DeviceState, IsDevice}
-use Rattle.ingest_engine.specs.Ingesting.{ComesTo, nothing, put, settled, settling}
+use Rattle.ingest_engine.specs.Ingesting.{IngestComesTo, nothing, put, settled, settling}
 use Rattle.plan_writer.proofs.PutFrom as from
 use Rattle.crash_laws.specs.SettlingSteadiness.{IsSteady}
 use Rattle.crash_laws.proofs.LeftWhole.{settling_left, stays_steady}
@@ -14,7 +14,7 @@ use Rattle.crash_laws.proofs.PutPlans.{crashes_put}
 
 module _ (id : List ℕ) (stamp : Option ℕ) (body : List ℕ) (old new : DeviceState) (device : IsDevice old) (device_new : IsDevice new)
     (tells : IsTrue old.tells) (still : IsStill old.foreign_writes new.foreign_writes) (steady : IsSteady old) where
-  pub comes_steady : ComesTo id stamp body old new → StaysSteadyBy id stamp body old new
+  pub comes_steady : IngestComesTo id stamp body old new → StaysSteadyBy id stamp body old new
   comes_steady (nothing same) = nothing_done id stamp body old new same steady
   comes_steady (settling refusal s) = by_whole id stamp body old new (stays_steady old new device steady s.called.cells
       (settling_left old new _ device tells s still steady))

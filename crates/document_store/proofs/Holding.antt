@@ -14,7 +14,7 @@ use Rattle.tamper_rules.specs.Rules.{HasDocument}
 use Rattle.tamper_rules.proofs.GivenUp.{one_layout}
 use Rattle.worm_device.specs.Views.{ViewState, Viewed}
 use Rattle.append_file.proofs.Spelled.{spelled_once}
-use Rattle.document_store.specs.Heads.{IsWhole, SpellsNone}
+use Rattle.document_store.specs.Heads.{IsWholePart, SpellsNone}
 use Rattle.document_store.specs.Looks.{IsPartOf}
 use Rattle.document_store.specs.Standing.{HoldsDocument}
 use Rattle.document_store.specs.declared.part.Part.{Part}
@@ -78,7 +78,7 @@ has_document_on e d = record {
 
 -- what was read whole goes on being so
 pub whole_on : {old new : ViewState} {start bytes : ℕ} {id body : List ℕ} → Viewed old new
-    → IsWhole old start bytes id body → IsWhole new start bytes id body
+    → IsWholePart old start bytes id body → IsWholePart new start bytes id body
 whole_on {old} {new} viewed w = record {
   count = w.count;
   identifier = w.identifier;
@@ -102,7 +102,7 @@ one_part g image n part start reserved bytes journal is done =
 
 -- a document that was read whole is one of the part
 abbrev pub whole_document : (v : ViewState) (start bytes : ℕ) (id body : List ℕ) → IsTrue v.base.tells
-    → IsWhole v start bytes id body → HasDocument v.image start bytes
+    → IsWholePart v start bytes id body → HasDocument v.image start bytes
 whole_document v start bytes id body tells w = record {
   id = id;
   body = body;
@@ -114,7 +114,7 @@ whole_document v start bytes id body tells w = record {
 
 -- and the slot holds it
 pub whole_is_held : (g : Layout) (v : ViewState) (n : ℕ) (part : Part) (id body : List ℕ) → IsTrue v.base.tells
-    → IsPartOf g v.image n part → IsWhole v part.start part.bytes id body → HoldsDocument g v.image n id body
+    → IsPartOf g v.image n part → IsWholePart v part.start part.bytes id body → HoldsDocument g v.image n id body
 whole_is_held g v n part id body tells is w = record {
   start = is.first;
   reserved = is.reserved;

@@ -13,11 +13,11 @@ use Rattle.tamper_rules.specs.declared.numbers.TheConstants.{BROKEN_DOCUMENT}
 use Rattle.worm_device.specs.Views.{ViewState, Viewed}
 use Rattle.worm_device.proofs.Counting.{still_second}
 use Rattle.worm_device.proofs.Images.{extends_self}
-use Rattle.commit_record.specs.States.{AsksBelow, IsNoState, IsState, LacksStamp, Shows, done_abandoned, done_unended, done_unreserved, done_wrongly, ends_unreserved, ends_unstamped, ends_wrongly, reserves_none}
+use Rattle.commit_record.specs.States.{AsksSlotBelow, IsNoState, IsState, LacksStamp, ShowsBroken, done_abandoned, done_unended, done_unreserved, done_wrongly, ends_unreserved, ends_unstamped, ends_wrongly, reserves_none}
 use Rattle.commit_record.specs.declared.slot.SlotState.{SlotState}
 use Rattle.commit_record.specs.declared.slot.SlotState.TheVariants.{Unused, Reserved, Abandoned, Committed, Done}
 use Rattle.document_store.specs.Heads.{SpellsNone}
-use Rattle.document_store.specs.Looks.{IsPartOf, IsUndone, LookFails, Names, PartEnds, commit_breach, of_document, of_state}
+use Rattle.document_store.specs.Looks.{IsPartOf, IsUndone, LookFails, NamesDocument, PartEnds, commit_breach, of_document, of_state}
 use Rattle.document_store.specs.declared.part.Part.{Part}
 use Rattle.document_store.proofs.Holding.{has_document_on, held_on, none_is_held, part_is_done, part_on}
 
@@ -62,7 +62,7 @@ pub told : {old mid : ViewState} → Viewed old mid → IsTrue old.base.tells �
 told before tells = subst IsTrue (sym before.called.tells) tells
 
 -- cells that were asked for below go on being so
-asks_from : {old mid : ViewState} (n : ℕ) → Viewed old mid → AsksBelow n old → AsksBelow n mid
+asks_from : {old mid : ViewState} (n : ℕ) → Viewed old mid → AsksSlotBelow n old → AsksSlotBelow n mid
 asks_from n before a = record {
   reserve = ap (λ (p : Image). p (reserve_at n)) before.planned ∙ a.reserve;
   outcome = ap (λ (p : Image). p (outcome_at n)) before.planned ∙ a.outcome;
@@ -73,7 +73,7 @@ asks_from n before a = record {
 
 module _ (g : Layout) {old mid new : ViewState} (before : Viewed old mid) (after : Viewed mid new) where
   -- what evidence shows, from an earlier state on
-  shows_from : {image : Image} {e : Evidence} → Shows g mid new image e → Shows g old new image e
+  shows_from : {image : Image} {e : Evidence} → ShowsBroken g mid new image e → ShowsBroken g old new image e
   shows_from s = record {
     stands = s.stands;
     broken = λ still volume. s.broken (still_second before.called.foreign_writes after.called.foreign_writes still)
@@ -81,7 +81,7 @@ module _ (g : Layout) {old mid new : ViewState} (before : Viewed old mid) (after
   }
 
   -- what evidence of slot n says, from an earlier state on
-  pub names_from : (n : ℕ) {e : Evidence} → Names g n mid new e → Names g n old new e
+  pub names_from : (n : ℕ) {e : Evidence} → NamesDocument g n mid new e → NamesDocument g n old new e
   names_from n (of_state out) = of_state (record {
     seen = no_state_from before.image out.seen;
     shown = shows_from out.shown;

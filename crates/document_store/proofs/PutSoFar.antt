@@ -15,7 +15,7 @@ use Rattle.append_file.specs.declared.piece.ContentFault.{ContentFault}
 use Rattle.append_file.specs.declared.piece.ContentFault.TheVariants as contents
 use Rattle.append_file.specs.declared.position.Position.{Position}
 use Rattle.append_file.proofs.Spelled.{front_of, has_read_on}
-use Rattle.document_store.specs.Heads.{IsHead, IsWhole, id_of}
+use Rattle.document_store.specs.Heads.{IsHead, IsWholePart, id_of}
 use Rattle.document_store.specs.Putting.{FillEnds, GotFront, PutFails, PutRestEnds, put_fault_of}
 use Rattle.document_store.specs.declared.head.Head.{Head}
 use Rattle.document_store.specs.declared.putting.PutFault.TheVariants.{SinkFault}
@@ -93,7 +93,7 @@ fill_whole old now p q size k piece so_far most = (
 
 -- what was read of a body is a front of that of each document that the part holds
 pub body_front : (v : ViewState) (start bytes : ℕ) (p : Position) (h : Head) (got id body : List ℕ)
-    → HasRead v start bytes p (stored_bytes (id_of h) got) → IsTrue v.base.tells → IsWhole v start bytes id body
+    → HasRead v start bytes p (stored_bytes (id_of h) got) → IsTrue v.base.tells → IsWholePart v start bytes id body
     → (got ≡ take (length got) body) × (length got ≤ length body)
 body_front v start bytes p h got id body read tells w =
     let mine = id_of h in

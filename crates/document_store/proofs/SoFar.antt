@@ -13,14 +13,14 @@ use Rattle.append_file.specs.declared.piece.ContentFault.{ContentFault}
 use Rattle.append_file.specs.declared.piece.ContentFault.TheVariants.{Broken, ReadFault}
 use Rattle.append_file.specs.declared.position.Position.{Position}
 use Rattle.append_file.proofs.Spelled.{whole}
-use Rattle.document_store.specs.Heads.{id_of, FaultEnds, IsHead, HasBody}
+use Rattle.document_store.specs.Heads.{id_of, HeadFaultEnds, IsHead, HasBody}
 use Rattle.document_store.specs.declared.head.Head.{Head}
 use Rattle.document_store.proofs.Parsing.{none_broken, body_fits}
 
 -- a read that failed, after a row of reads that did not
 pub fault_on : (start bytes : ℕ) (old now new : ViewState) (p q : Position) (given : List ℕ) (fault : ContentFault)
     → Viewed old now → now.base.faults ≡ old.base.faults → HasRead now start bytes p given → length given < bytes
-    → ByteEnds now new p q (Err fault) → FaultEnds start bytes old new fault
+    → ByteEnds now new p q (Err fault) → HeadFaultEnds start bytes old new fault
 fault_on start bytes old now new p q given Broken before same h less ends = (
   ends.0 ∙ same,
   λ tells. none_broken new.image start bytes
@@ -31,7 +31,7 @@ fault_on start bytes old now new p q given ReadFault before same h less ends =
 
 -- the first read failed
 pub fault_first : (start bytes : ℕ) (old new : ViewState) (p q : Position) (fault : ContentFault)
-    → HasRead old start bytes p [] → ByteEnds old new p q (Err fault) → FaultEnds start bytes old new fault
+    → HasRead old start bytes p [] → ByteEnds old new p q (Err fault) → HeadFaultEnds start bytes old new fault
 fault_first start bytes old new p q Broken h ends = (
   ends.0,
   λ tells. elim (cases_lt 0 bytes) [
@@ -43,7 +43,7 @@ fault_first start bytes old new p q ReadFault h ends = ends
 
 -- a fault after a row of reads that did not fail
 pub fault_later : (start bytes : ℕ) (old mid new : ViewState) (fault : ContentFault) → Viewed old mid
-    → mid.base.faults ≡ old.base.faults → FaultEnds start bytes mid new fault → FaultEnds start bytes old new fault
+    → mid.base.faults ≡ old.base.faults → HeadFaultEnds start bytes mid new fault → HeadFaultEnds start bytes old new fault
 fault_later start bytes old mid new Broken before same ends =
     (ends.0 ∙ same, λ tells. ends.1 (subst IsTrue (sym before.called.tells) tells))
 fault_later start bytes old mid new ReadFault before same ends = omega (arith, same, ends)

@@ -32,22 +32,22 @@ pub record IsHead (v : ViewState) (start bytes : ℕ) (p : Position) (h : Head) 
   pub room : h.id_length ≤ MAX_IDENTIFIER_BYTES
 
 -- this document was read, and the part holds it where the device below tells its image
-pub record IsWhole (v : ViewState) (start bytes : ℕ) (id body : List ℕ) : Type 0 where
+pub record IsWholePart (v : ViewState) (start bytes : ℕ) (id body : List ℕ) : Type 0 where
   pub count : bytes ≡ length (stored_bytes id body)
   pub identifier : IsIdentifier id
   pub most : length body ≤ MAX_BODY_BYTES
   pub told : IsTrue v.base.tells → IsBody body × Spells v.image start (stored_bytes id body)
 
 -- why a document was not read
-abbrev pub FaultEnds : ℕ → ℕ → ViewState → ViewState → ContentFault → Type 0
-FaultEnds start bytes old new Broken =
+abbrev pub HeadFaultEnds : ℕ → ℕ → ViewState → ViewState → ContentFault → Type 0
+HeadFaultEnds start bytes old new Broken =
     (new.base.faults ≡ old.base.faults) × (IsTrue old.base.tells → SpellsNone new.image start bytes)
-FaultEnds start bytes old new ReadFault = Rose old.base.faults new.base.faults
+HeadFaultEnds start bytes old new ReadFault = Rose old.base.faults new.base.faults
 
 -- how reading what stands before the body may end, and why
 abbrev pub HeadEnds : ℕ → ℕ → ViewState → ViewState → Position → Result Head ContentFault → Type 0
 HeadEnds start bytes old new p (Ok h) = (new.base.faults ≡ old.base.faults) × IsHead new start bytes p h
-HeadEnds start bytes old new p (Err fault) = FaultEnds start bytes old new fault
+HeadEnds start bytes old new p (Err fault) = HeadFaultEnds start bytes old new fault
 
 -- a body behind this head
 pub record HasBody (v : ViewState) (start bytes : ℕ) (h : Head) : Type 0 where
@@ -55,14 +55,14 @@ pub record HasBody (v : ViewState) (start bytes : ℕ) (h : Head) : Type 0 where
   pub is_length : length body ≡ h.body_length
   pub id_length : h.id_length ≡ length (id_of h)
   pub room : h.id_length ≤ MAX_IDENTIFIER_BYTES
-  pub whole : IsWhole v start bytes (id_of h) body
+  pub whole : IsWholePart v start bytes (id_of h) body
 
 -- how reading the body, or the whole document, may end, and why
 abbrev pub DocumentEnds : ℕ → ℕ → ViewState → ViewState → Result Head ContentFault → Type 0
 DocumentEnds start bytes old new (Ok h) = (new.base.faults ≡ old.base.faults) × HasBody new start bytes h
-DocumentEnds start bytes old new (Err fault) = FaultEnds start bytes old new fault
+DocumentEnds start bytes old new (Err fault) = HeadFaultEnds start bytes old new fault
 
 -- how reading the body behind a head may end, and why
 abbrev pub SkipEnds : ℕ → ℕ → Head → ViewState → ViewState → Result Unit ContentFault → Type 0
 SkipEnds start bytes h old new (Ok u) = (new.base.faults ≡ old.base.faults) × HasBody new start bytes h
-SkipEnds start bytes h old new (Err fault) = FaultEnds start bytes old new fault
+SkipEnds start bytes h old new (Err fault) = HeadFaultEnds start bytes old new fault

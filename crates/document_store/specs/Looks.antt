@@ -39,17 +39,18 @@ pub record IsBrokenDocument (g : Layout) (n : ℕ) (before after : Image) (e : E
   pub none : (id body : List ℕ) → HoldsDocument g before n id body → ⊥
 
 -- What evidence of a look at slot n says, where the device below tells its image.
-pub data Names (g : Layout) (n : ℕ) (old new : ViewState) (e : Evidence) : Type 0 where
+pub data NamesDocument (g : Layout) (n : ℕ) (old new : ViewState) (e : Evidence) : Type 0 where
   -- the slot's cells were seen to be no state
-  of_state : IsOutOfPlace g n old new e → Names g n old new e
+  of_state : IsOutOfPlace g n old new e → NamesDocument g n old new e
   -- its document was seen to be broken
-  of_document : IsBrokenDocument g n old.image new.image e → Names g n old new e
+  of_document : IsBrokenDocument g n old.image new.image e → NamesDocument g n old new e
 
 -- why a look at slot n gives no answer
 abbrev pub LookFails : Layout → ℕ → ViewState → ViewState → Fault → Type 0
 LookFails g n old new faults.Failed = Rose old.base.faults new.base.faults
 LookFails g n old new (faults.Tampered e) =
-    IsPlaceOf g e.rule e.cell × (new.base.faults ≡ old.base.faults) × (IsTrue old.base.tells → Names g n old new e)
+    IsPlaceOf g e.rule e.cell × (new.base.faults ≡ old.base.faults)
+    × (IsTrue old.base.tells → NamesDocument g n old new e)
 
 -- the same, as a command refuses
 abbrev pub LookRefuses : Layout → ℕ → ViewState → ViewState → Refusal → Type 0
@@ -97,9 +98,9 @@ DonePartEnds g n old new (Ok part) = PartEnds g n old new (Ok (Some part))
 DonePartEnds g n old new (Err fault) = LookFails g n old new fault
 
 -- how reading the document of a part may end, and why
-abbrev pub ReadEnds : Layout → Part → ViewState → ViewState → Result Head Fault → Type 0
-ReadEnds g part old new (Ok h) = (new.base.faults ≡ old.base.faults) × HasBody new part.start part.bytes h
-ReadEnds g part old new (Err fault) = LookFails g part.slot old new fault
+abbrev pub ReadDocumentEnds : Layout → Part → ViewState → ViewState → Result Head Fault → Type 0
+ReadDocumentEnds g part old new (Ok h) = (new.base.faults ≡ old.base.faults) × HasBody new part.start part.bytes h
+ReadDocumentEnds g part old new (Err fault) = LookFails g part.slot old new fault
 
 -- slot n holds a document with this head
 pub record HoldsHead (g : Layout) (image : Image) (n : ℕ) (h : Head) : Type 0 where

@@ -9,7 +9,7 @@ use Rattle.append_file.specs.Reading.{HasBroken, HasRead}
 use Rattle.append_file.specs.declared.piece.ContentFault.{ContentFault}
 use Rattle.append_file.specs.declared.piece.ContentFault.TheVariants as contents
 use Rattle.append_file.specs.declared.position.Position.{Position}
-use Rattle.document_store.specs.Heads.{HasBody, IsWhole, SpellsNone}
+use Rattle.document_store.specs.Heads.{HasBody, IsWholePart, SpellsNone}
 use Rattle.document_store.specs.declared.body.BodyFault.{BodyFault}
 use Rattle.document_store.specs.declared.body.BodyFault.TheVariants as bodies
 use Rattle.document_store.specs.declared.head.Head.{Head}
@@ -42,7 +42,7 @@ FillEnds old new p q piece (Err contents.ReadFault) = Rose old.base.faults new.b
 pub record GotFront (v : ViewState) (start bytes : ℕ) (from to : SinkState) : Type 0 where
   pub got : List ℕ
   pub gets : Gets from.held to.held got
-  pub front : (id body : List ℕ) → IsTrue v.base.tells → IsWhole v start bytes id body
+  pub front : (id body : List ℕ) → IsTrue v.base.tells → IsWholePart v start bytes id body
       → (got ≡ take (length got) body) × (length got ≤ length body)
 
 -- why the body of a part was not put whole, and what the sink got
@@ -70,12 +70,12 @@ PutRestEnds start bytes h old new from to (Err fault) = PutFails start bytes old
 pub record GotWhole (v : ViewState) (start bytes count : ℕ) (from to : SinkState) : Type 0 where
   pub id : List ℕ
   pub body : List ℕ
-  pub whole : IsWhole v start bytes id body
+  pub whole : IsWholePart v start bytes id body
   pub count_is : count ≡ length body
   pub gets : Gets from.held to.held body
 
 -- how putting the body of a part may end, and why
-abbrev pub PutEnds : ℕ → ℕ → ViewState → ViewState → SinkState → SinkState → Result ℕ PutFault → Type 0
-PutEnds start bytes old new from to (Ok count) =
+abbrev pub PutBodyEnds : ℕ → ℕ → ViewState → ViewState → SinkState → SinkState → Result ℕ PutFault → Type 0
+PutBodyEnds start bytes old new from to (Ok count) =
     (new.base.faults ≡ old.base.faults) × (to.faults ≡ from.faults) × GotWhole new start bytes count from to
-PutEnds start bytes old new from to (Err fault) = PutFails start bytes old new from to fault
+PutBodyEnds start bytes old new from to (Err fault) = PutFails start bytes old new from to fault

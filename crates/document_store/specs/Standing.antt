@@ -29,7 +29,7 @@ HeldStays =
     → HoldsDocument g new n id body
 
 -- a slot holds one document
-abbrev pub HeldIsOne : Type 0
-HeldIsOne =
+abbrev pub SlotDocumentIsOne : Type 0
+SlotDocumentIsOne =
     (g : Layout) (image : Image) (n : ℕ) (a b c d : List ℕ) → HoldsDocument g image n a b
     → HoldsDocument g image n c d → (a ≡ c) × (b ≡ d)

@@ -1,5 +1,5 @@
 //! Laws: what the words of the contracts mean together, over all images.
-ghost use Rattle.document_store.specs.Standing.{HeldIsOne, HeldIsStanding, HeldStays};
+ghost use Rattle.document_store.specs.Standing.{SlotDocumentIsOne, HeldIsStanding, HeldStays};
 
 /// A document that a slot holds stands, where cell 0 states the layout; and one that stands is held.
 pub fn held_is_standing()
@@ -13,5 +13,5 @@ pub fn held_stays()
 
 /// A slot holds one document.
 pub fn held_is_one()
-    ensures { HeldIsOne }
+    ensures { SlotDocumentIsOne }
 {}

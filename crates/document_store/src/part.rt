@@ -3,7 +3,7 @@ ghost use Rattle.std.specs.Prelude.{◌≡◌, ◌<◌, ◌≤◌, ◌+◌, IsTr
 ghost use Rattle.volume_meaning.specs.Slots.{IsDoneSlot, cells_for};
 ghost use Rattle.worm_device.specs.Views.{Viewed};
 ghost use Rattle.commit_record.specs.States.{stamp_cells};
-ghost use Rattle.document_store.specs.Looks.{DoneHeadEnds, DonePartEnds, IsPartOf, IsStated, PartEnds, ReadEnds, ReadsOnce, commit_breach};
+ghost use Rattle.document_store.specs.Looks.{DoneHeadEnds, DonePartEnds, IsPartOf, IsStated, PartEnds, ReadDocumentEnds, ReadsOnce, commit_breach};
 
 use crate::head::{Head, read_document};
 use append_file::ContentFault;
@@ -76,7 +76,7 @@ pub fn read_part<V: View>(view: &mut V, geometry: &Geometry, part: &Part) -> Res
         → IsPartOf geometry.now (V.seen view.old).image part.now.slot part.now }
     ensures viewed { Viewed (V.seen view.old) (V.seen view.new) }
     ensures reads { (V.seen view.new).base.reads ≤ (V.seen view.old).base.reads + cells_for part.now.bytes }
-    ensures ends { ReadEnds geometry.now part.now (V.seen view.old) (V.seen view.new) result }
+    ensures ends { ReadDocumentEnds geometry.now part.now (V.seen view.old) (V.seen view.new) result }
 {
     match read_document(view, part.start, part.bytes) {
         Ok(head) => Ok(head),

@@ -4,7 +4,7 @@ ghost use Rattle.volume_meaning.specs.Slots.{cells_for};
 ghost use Rattle.worm_device.specs.Views.{Viewed};
 ghost use Rattle.append_file.specs.Reading.{IsPosition};
 ghost use Rattle.document_store.specs.Heads.{IsHead};
-ghost use Rattle.document_store.specs.Putting.{FillEnds, PutEnds, PutRestEnds};
+ghost use Rattle.document_store.specs.Putting.{FillEnds, PutBodyEnds, PutRestEnds};
 
 use crate::head::{Head, read_head};
 use append_file::{ContentFault, Position, read_byte};
@@ -36,7 +36,7 @@ pub(crate) fn put_document<V: View, K: Sink>(
     requires { start + cells_for bytes ≤ (V.seen view.old).cells }
     ensures viewed { Viewed (V.seen view.old) (V.seen view.new) }
     ensures reads { (V.seen view.new).base.reads ≤ (V.seen view.old).base.reads + cells_for bytes }
-    ensures ends { PutEnds start bytes (V.seen view.old) (V.seen view.new) (K.state sink.old) (K.state sink.new)
+    ensures ends { PutBodyEnds start bytes (V.seen view.old) (V.seen view.new) (K.state sink.old) (K.state sink.new)
         result }
 {
     let mut position = Position::new(start, bytes);

@@ -8,19 +8,19 @@ use Rattle.volume_meaning.specs.HashPaths.{Sought}
 use Rattle.volume_meaning.specs.Nodes.{IsNode, root, under}
 use Rattle.volume_meaning.proofs.HashTrails.{passed_on, passed_to_on}
 use Rattle.worm_device.specs.Views.{ViewState, Viewed}
-use Rattle.hash_tree.specs.Levels.{IsLed, IsLedWithin, IsPlaced, IsReached}
+use Rattle.hash_tree.specs.Levels.{IsLedByChild, IsLedWithin, IsLevelPlaced, IsLevelReached}
 use Rattle.hash_tree.specs.Steps.{IsPassedUpTo}
 use Rattle.hash_tree.specs.declared.level.ChildCell.{ChildCell}
 use Rattle.hash_tree.specs.declared.level.Level.{Level}
 
 -- the child cell that led to a level stands on
-led_on : {a b : Image} (led : Option ChildCell) → Extends a b → IsLed a led → IsLed b led
+led_on : {a b : Image} (led : Option ChildCell) → Extends a b → IsLedByChild a led → IsLedByChild b led
 led_on None e stands = stands
 led_on (Some child) e stands = (e.keeps child.cell child.found stands.0, stands.1)
 
 -- so a level stays where it is
 pub placed_on : {g : Layout} {edge : ℕ} {old new : ViewState} {level : Level} → Viewed old new
-    → IsPlaced g edge old level → IsPlaced g edge new level
+    → IsLevelPlaced g edge old level → IsLevelPlaced g edge new level
 placed_on {g} {edge} {old} {new} {level} viewed placed = record {
   number = placed.number;
   within = placed.within;
@@ -35,8 +35,8 @@ node_on e (under level node v above x is rest half less child from to) =
     under level node v above x is (node_on e rest) half less (holds_on e child) from to
 
 -- so a level that is reached stays so
-pub reached_on : {g : Layout} {old new : Image} (level : Level) → Extends old new → IsReached g old level
-    → IsReached g new level
+pub reached_on : {g : Layout} {old new : Image} (level : Level) → Extends old new → IsLevelReached g old level
+    → IsLevelReached g new level
 reached_on level e reached = node_on e reached
 
 -- and so does a child cell that is one of a node

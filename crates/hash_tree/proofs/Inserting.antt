@@ -15,20 +15,20 @@ use Rattle.cell_pool.specs.Records.{HoldsPlanned, PlansRecord}
 use Rattle.cell_pool.specs.declared.fault.GrowthFault.{GrowthFault}
 use Rattle.cell_pool.specs.declared.planning.PlanFault.{PlanFault}
 use Rattle.cell_pool.specs.declared.planning.PlanFault.TheVariants.{Taken, NoMemory}
-use Rattle.hash_tree.specs.Levels.{IsLed, IsWithin, bucket_at, node_in, node_of}
+use Rattle.hash_tree.specs.Levels.{IsLedByChild, IsNodeWithin, bucket_at, node_in, node_of}
 use Rattle.hash_tree.specs.Steps.{IsOpenAt}
 use Rattle.hash_tree.specs.declared.level.ChildCell.{ChildCell}
 use Rattle.hash_tree.specs.declared.level.Level.{Level}
 use Rattle.hash_tree.specs.declared.path.Open.{Open}
-use Rattle.hash_tree.specs.Inserting.{InsertsEntry, IsTaken, alone, with_node, entry_of}
-use Rattle.hash_tree.specs.Naming.{Names}
-use Rattle.hash_tree.specs.Readiness.{IsReady, blank_in, blank_of, owner_in}
+use Rattle.hash_tree.specs.Inserting.{InsertsEntry, IsPlaceTaken, alone, with_node, entry_of}
+use Rattle.hash_tree.specs.Naming.{BlamesChild}
+use Rattle.hash_tree.specs.Readiness.{IsReadyPlace, blank_in, blank_of, owner_in}
 use Rattle.hash_tree.proofs.Needs.{need_alone, need_with_node}
 use Rattle.hash_tree.proofs.Rooting.{rooted_alone, rooted_with_node}
 use Rattle.hash_tree.proofs.Trails.{trail_alone, trail_with_node}
 
 -- a node of a path lies before what is free
-pub node_before : (g : Layout) (fresh next : ℕ) (led : Option ChildCell) → IsWithin g fresh led → pool_at g ≤ fresh
+pub node_before : (g : Layout) (fresh next : ℕ) (led : Option ChildCell) → IsNodeWithin g fresh led → pool_at g ≤ fresh
     → fresh ≤ next → node_in g led + 32 ≤ next
 node_before g fresh next None within from before = omega arith
 node_before g fresh next (Some child) within from before = omega (arith, within.1)
@@ -51,7 +51,7 @@ something None not_none = absurd (not_none refl)
 something (Some x) not_none = (x, refl)
 
 module _ (g : Layout) (level : Level) (place : Open) (slot : ℕ) (pool : Pool) (old : ViewState) (view : IsView old)
-    (ready : IsReady g level place pool.next old) (half : nibble level.digest level.number < 16) where
+    (ready : IsReadyPlace g level place pool.next old) (half : nibble level.digest level.number < 16) where
   low : node_of g level + 32 ≤ pool.next
   low = node_before g old.fresh pool.next level.led_by ready.within ready.from ready.fresh
 
@@ -157,7 +157,7 @@ module _ (g : Layout) (level : Level) (place : Open) (slot : ℕ) (pool : Pool) 
   -- the blank cell is planned for somebody else, and the node is not the root
   taken : (e : Evidence) (child : ChildCell) → level.led_by ≡ Some child
       → e ≡ record { rule = LOST_CHILD; cell = child.cell; found = child.found }
-      → (old.planned (blank_of place) ≡ None → ⊥) → IsTaken g level place old e
+      → (old.planned (blank_of place) ≡ None → ⊥) → IsPlaceTaken g level place old e
   taken e child led is not_free =
       let held = something (old.planned (blank_of place)) not_free in
       let whose = something (old.owners (blank_of place)) (λ none. not_free (view.unplanned (blank_of place) none)) in
@@ -178,11 +178,11 @@ module _ (g : Layout) (level : Level) (place : Open) (slot : ℕ) (pool : Pool) 
         cell = cell;
         found = found;
         stands = λ tells.
-            let there : IsLed old.lower (Some child) = subst (λ (l : Option ChildCell). IsLed old.lower l) led
+            let there : IsLedByChild old.lower (Some child) = subst (λ (l : Option ChildCell). IsLedByChild old.lower l) led
             (ready.led tells) in
             ap old.lower cell ∙ there.0 ∙ ap (λ (f : List ℕ). Some f) (sym found);
         leads = λ tells.
-            let there : IsLed old.lower (Some child) = subst (λ (l : Option ChildCell). IsLed old.lower l) led
+            let there : IsLedByChild old.lower (Some child) = subst (λ (l : Option ChildCell). IsLedByChild old.lower l) led
             (ready.led tells) in
             let target : child.target ≡ node_of g level = ap (λ (l : Option ChildCell). node_in g l) (sym led) in
             subst (λ (n : ℕ). IsRecordCell (Child n) e.cell e.found) target
@@ -192,7 +192,7 @@ module _ (g : Layout) (level : Level) (place : Open) (slot : ℕ) (pool : Pool) 
 
   -- the first cell is not planned
   refused : (r : RecordCell) (owner : Owner) (new : ViewState) (led : Option ChildCell) (fault : PlanFault)
-      (named : GrowthFault) → level.led_by ≡ led → Names led fault named
+      (named : GrowthFault) → level.led_by ≡ led → BlamesChild led fault named
       → PlansRecord (blank_of place) r owner old new (Err fault)
       → InsertsEntry g level place slot pool pool old new (Err named)
   refused r owner new child NoMemory named led is plans =
@@ -223,7 +223,7 @@ module _ (g : Layout) (level : Level) (place : Open) (slot : ℕ) (pool : Pool) 
 
   pub inserts_nothing : (at : ℕ) (child : Option ℕ) (r : RecordCell) (owner : Owner) (new : ViewState)
       (fault : PlanFault) (named : GrowthFault) → place.child ≡ child → at ≡ blank_in place.bucket child
-      → Names level.led_by fault named → PlansRecord at r owner old new (Err fault)
+      → BlamesChild level.led_by fault named → PlansRecord at r owner old new (Err fault)
       → InsertsEntry g level place slot pool pool old new (Err named)
   inserts_nothing at child r owner new fault named is_child is_at names plans =
       refused r owner new level.led_by fault named refl names

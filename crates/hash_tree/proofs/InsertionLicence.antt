@@ -18,7 +18,7 @@ use Rattle.hash_tree.specs.Levels.{IsChildPlace, IsLedWithin, node_of}
 use Rattle.hash_tree.specs.declared.level.ChildCell.{ChildCell}
 use Rattle.hash_tree.specs.declared.level.Level.{Level}
 use Rattle.hash_tree.specs.declared.path.Open.{Open}
-use Rattle.hash_tree.specs.Inserting.{IsTaken}
+use Rattle.hash_tree.specs.Inserting.{IsPlaceTaken}
 use Rattle.hash_tree.specs.InsertionLaws.{LiesByOwner, in_block, in_node, in_new}
 use Rattle.hash_tree.specs.Readiness.{blank_of, owner_in}
 
@@ -73,7 +73,7 @@ not_others {g} {view} edge well is from to another (in_new past low) =
     omega (arith, well.edge view.fresh edge, is, to, past, low)
 
 module _ (g : Layout) (level : Level) (place : Open) (view : ViewState) (e : Evidence)
-    (taken : IsTaken g level place view e) (tells : IsTrue view.base.tells) (volume : IsVolume g.cells view.lower g)
+    (taken : IsPlaceTaken g level place view e) (tells : IsTrue view.base.tells) (volume : IsVolume g.cells view.lower g)
     (edge : IsEdge g view.lower view.lower view.fresh) (within : IsLedWithin g view.lower level.led_by)
     (lies : (cell : ℕ) (owner : Owner) → view.owners cell ≡ Some owner → LiesByOwner g view cell owner) where
   led_within : IsChildPlace g view.lower e.cell

@@ -9,14 +9,14 @@ use Rattle.volume_meaning.proofs.Holding.{some_is}
 use Rattle.volume_meaning.specs.HashPaths.{nibble}
 use Rattle.tamper_rules.specs.Rules.{Buckets, Children, IsOfPool, IsPlaceOf}
 use Rattle.tamper_rules.specs.declared.numbers.TheConstants.{FAKE_BUCKET, LOST_CHILD}
-use Rattle.hash_tree.specs.Levels.{AreBounds, IsReached, IsWithin, bucket_at, child_at, node_in, node_of}
-use Rattle.hash_tree.specs.Licences.{IsLicensed}
+use Rattle.hash_tree.specs.Levels.{AreBounds, IsLevelReached, IsNodeWithin, bucket_at, child_at, node_in, node_of}
+use Rattle.hash_tree.specs.Licences.{IsTreeLicensed}
 use Rattle.hash_tree.specs.Steps.{IsNoBucket, IsNoChild}
 use Rattle.hash_tree.specs.declared.level.ChildCell.{ChildCell}
 use Rattle.hash_tree.specs.declared.level.Level.{Level}
 
 -- a cell of a node that is the root or lies within the bounds is one of the root or of the pool
-node_place : (g : Layout) (edge off cell : ℕ) (led : Option ChildCell) → AreBounds g edge → IsWithin g edge led
+node_place : (g : Layout) (edge off cell : ℕ) (led : Option ChildCell) → AreBounds g edge → IsNodeWithin g edge led
     → off < 32 → cell ≡ node_in g led + off → LiesIn g Root cell ⊎ IsOfPool g cell
 node_place g edge off cell None bounds within less is =
     inl (record { exists = _; from = omega (arith, is); below = omega (arith, is, less) })
@@ -24,12 +24,12 @@ node_place g edge off cell (Some child) bounds within less is =
     inr (omega (arith, is, within.0), omega (arith, is, less, within.1, bounds.to))
 
 -- and lies before the edge
-node_before : (g : Layout) (edge off cell : ℕ) (led : Option ChildCell) → AreBounds g edge → IsWithin g edge led
+node_before : (g : Layout) (edge off cell : ℕ) (led : Option ChildCell) → AreBounds g edge → IsNodeWithin g edge led
     → off < 32 → cell ≡ node_in g led + off → cell < edge
 node_before g edge off cell None bounds within less is = omega (arith, is, less, bounds.from)
 node_before g edge off cell (Some child) bounds within less is = omega (arith, is, less, within.1)
 
-module _ (g : Layout) (edge : ℕ) (level : Level) (bounds : AreBounds g edge) (within : IsWithin g edge level.led_by)
+module _ (g : Layout) (edge : ℕ) (level : Level) (bounds : AreBounds g edge) (within : IsNodeWithin g edge level.led_by)
     (half : nibble level.digest level.number < 16) where
   pub bucket_place : (e : Evidence) → e.rule ≡ FAKE_BUCKET → e.cell ≡ bucket_at g level → IsPlaceOf g e.rule e.cell
   bucket_place e rule cell = (
@@ -57,7 +57,7 @@ module _ (g : Layout) (edge : ℕ) (level : Level) (bounds : AreBounds g edge) (
   -- what is no bucket breaks its rule
   pub bucket_licensed : (first : Level) (cells : ℕ) (image : Image) (e : Evidence) → e.rule ≡ FAKE_BUCKET
       → e.cell ≡ bucket_at g level → IsNoBucket image (bucket_at g level) e.found
-      → (IsReached g image first → IsReached g image level) → IsLicensed g edge first cells image e
+      → (IsLevelReached g image first → IsLevelReached g image level) → IsTreeLicensed g edge first cells image e
   bucket_licensed first cells image e rule cell bad reaches = record {
     stands = ap image cell ∙ bad.stands;
     broken = λ volume reached ends. record {
@@ -82,7 +82,7 @@ module _ (g : Layout) (edge : ℕ) (level : Level) (bounds : AreBounds g edge) (
   -- what is no child cell does, and so does one that leads out of the bounds, where these end at an edge
   pub child_licensed : (first : Level) (cells : ℕ) (image : Image) (e : Evidence) → e.rule ≡ LOST_CHILD
       → e.cell ≡ child_at g level → IsNoChild image (pool_at g) edge (child_at g level) e.found
-      → (IsReached g image first → IsReached g image level) → IsLicensed g edge first cells image e
+      → (IsLevelReached g image first → IsLevelReached g image level) → IsTreeLicensed g edge first cells image e
   child_licensed first cells image e rule cell bad reaches = record {
     stands = ap image cell ∙ bad.stands;
     broken = λ volume reached ends. record {

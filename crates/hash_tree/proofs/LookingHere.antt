@@ -10,7 +10,7 @@ use Rattle.worm_device.specs.Views.{ViewState}
 use Rattle.worm_device.proofs.Counting.{rose_from}
 use Rattle.worm_device.proofs.Resting.{viewed_then}
 use Rattle.hash_tree.specs.Levels.{bucket_at, child_at, node_of}
-use Rattle.hash_tree.specs.Looking.{IsCandidate, LooksHere, ReadsBucket, ReadsChild}
+use Rattle.hash_tree.specs.Looking.{IsCandidateBucket, LooksAtNode, ReadsBucket, ReadsChild}
 use Rattle.hash_tree.specs.Steps.{HasNoneLeft}
 use Rattle.hash_tree.specs.declared.level.ChildCell.{ChildCell}
 use Rattle.hash_tree.specs.declared.level.Level.{Level}
@@ -43,7 +43,7 @@ child_read {at} {there} {pool} {start} {edge} {old} {new} {result} is begins rea
 
 module _ (g : Layout) (edge : ℕ) (level : Level) (held : HeldBucket) (old mid new : ViewState)
     (number : level.number < 64) (above_last : level.number ≢ 63) (half : nibble level.digest level.number < 16)
-    (bucket : ReadsBucket (bucket_at g level) old mid (Ok (Some held))) (other : IsCandidate level held false) where
+    (bucket : ReadsBucket (bucket_at g level) old mid (Ok (Some held))) (other : IsCandidateBucket level held false) where
   -- the bucket, after the second read
   none_left : {result : Result (Option ChildCell) Fault} → ReadsChild (child_at g level) (pool_at g) edge mid new result
       → IsTrue old.base.tells
@@ -60,7 +60,7 @@ module _ (g : Layout) (edge : ℕ) (level : Level) (held : HeldBucket) (old mid 
 
   -- the child cell leads on
   pub leads_on : (child : ChildCell) → ReadsChild (child_at g level) (pool_at g) edge mid new (Ok (Some child))
-      → LooksHere g edge level old new (Ok (Leads child))
+      → LooksAtNode g edge level old new (Ok (Leads child))
   leads_on child read = record {
     viewed = viewed_then bucket.viewed read.viewed;
     reads = omega (arith, bucket.reads, read.reads);
@@ -75,7 +75,7 @@ module _ (g : Layout) (edge : ℕ) (level : Level) (held : HeldBucket) (old mid 
   -- it is blank
   pub ends_below : (at child : ℕ) → at ≡ bucket_at g level → child ≡ child_at g level
       → ReadsChild (child_at g level) (pool_at g) edge mid new (Ok None)
-      → LooksHere g edge level old new (Ok (Ends (record { bucket = at; child = Some child })))
+      → LooksAtNode g edge level old new (Ok (Ends (record { bucket = at; child = Some child })))
   ends_below at child is under read = record {
     viewed = viewed_then bucket.viewed read.viewed;
     reads = omega (arith, bucket.reads, read.reads);
@@ -89,7 +89,7 @@ module _ (g : Layout) (edge : ℕ) (level : Level) (held : HeldBucket) (old mid 
 
   -- it can't be read, or is none
   pub fails_below : (fault : Fault) → ReadsChild (child_at g level) (pool_at g) edge mid new (Err fault)
-      → LooksHere g edge level old new (Err fault)
+      → LooksAtNode g edge level old new (Err fault)
   fails_below Failed read = record {
     viewed = viewed_then bucket.viewed read.viewed;
     reads = omega (arith, bucket.reads, read.reads);

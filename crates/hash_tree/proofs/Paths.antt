@@ -8,7 +8,7 @@ use Rattle.volume_meaning.specs.Volumes.{Holds}
 use Rattle.volume_meaning.proofs.Extending.{holds_on}
 use Rattle.volume_meaning.specs.HashPaths.{Sought, IsPassed, down, fingerprint_of, nibble}
 use Rattle.hash_tree.specs.Levels.{bucket_at, level_below, node_of}
-use Rattle.hash_tree.specs.Steps.{ComesTo, here, further, GoesOn, HasNoneLeft, IsPassedUpTo, LeadsBy, PassesBucket}
+use Rattle.hash_tree.specs.Steps.{ComesTo, here, further, PathGoesOn, HasNoneLeft, IsPassedUpTo, LeadsBy, PassesBucket}
 use Rattle.hash_tree.specs.declared.level.ChildCell.{ChildCell}
 use Rattle.hash_tree.specs.declared.level.Level.{Level}
 
@@ -104,7 +104,7 @@ passed_along (further level child none leads rest) up = passed_along rest (passe
 
 -- in the words of a step
 pub goes_on : {g : Layout} {edge : ℕ} {image : Image} {first last : Level} → ComesTo g edge image last first
-    → GoesOn g edge image first last
+    → PathGoesOn g edge image first last
 goes_on comes = λ root s up. (passed_along comes up).passed
 
 pub passes_bucket : {g : Layout} {edge : ℕ} {image : Image} {first last : Level} → ComesTo g edge image last first

@@ -12,7 +12,7 @@ use Rattle.volume_meaning.specs.Nodes.{IsNode, IsOnPath}
 use Rattle.volume_meaning.specs.Nodes as nodes
 use Rattle.tamper_rules.proofs.GivenUp.{children}
 use Rattle.tamper_rules.proofs.Writing.{same_or_not}
-use Rattle.ingest_laws.specs.ListShapes.{Adds}
+use Rattle.ingest_laws.specs.ListShapes.{AddsOneCell}
 use Rattle.ingest_laws.specs.TreeShapes.{IsWellRooted}
 use Rattle.ingest_laws.proofs.ListShapes.{adds_extends, holds_back}
 use Rattle.ingest_laws.proofs.TreeShapes.{one_level, rooted_apart, rooted_with_child}
@@ -59,7 +59,7 @@ same_place {g} {image} {to} {v} {node} {u} {other} w n m in_one in_other same =
 
 -- one bucket more
 module _ {g : Layout} {old new : Image} {to v node x : ℕ} (w : IsWellRooted g old to) (n : IsNode g old v node)
-    (xs : x < 16) (a : Adds (node + x) old new) where
+    (xs : x < 16) (a : AddsOneCell (node + x) old new) where
   pub child_same : (u other y : ℕ) → IsNode g old u other → y < 16 → new (other + 16 + y) ≡ old (other + 16 + y)
   child_same u other y m ys =
       a.others (other + 16 + y)
@@ -109,7 +109,7 @@ rooted_alone g level place slot next old new half no_child is_bucket held others
     let blank : old (bucket_at g level) ≡ None =
     subst (λ (c : ℕ). old c ≡ None) is_bucket
     (subst (λ (c : Option ℕ). old (blank_in place.bucket c) ≡ None) no_child before.blank) in
-    let a : Adds (bucket_at g level) old new = record { was = blank; others = others } in
+    let a : AddsOneCell (bucket_at g level) old new = record { was = blank; others = others } in
     record {
       rooted = with_bucket before.rooted before.node half a;
       grows = in_bucket a held refl (ap (λ (c : Option ℕ). cost_in c) no_child);
@@ -142,14 +142,14 @@ module _ (g : Layout) (level : Level) (place : Open) (slot next to : ℕ) (old m
   above : IsWritten old (bucket_at g level)
   above = subst (λ (c : ℕ). IsWritten old c) is_bucket (before.bucket at has_child)
 
-  a : Adds (child_at g level) old mid
+  a : AddsOneCell (child_at g level) old mid
   a = record { was = blank; others = others }
 
   -- what is free is blank with the child cell too
   still_blank : (cell : ℕ) → next ≤ cell → mid cell ≡ None
   still_blank cell past = others cell (λ same. omega (arith, same, half, low, past)) ∙ beyond cell past
 
-  b : Adds (next + nibble level.digest (level.number + 1)) mid new
+  b : AddsOneCell (next + nibble level.digest (level.number + 1)) mid new
   b = record {
     was = still_blank (next + nibble level.digest (level.number + 1)) (omega arith);
     others = others_of_node;

@@ -9,7 +9,7 @@ use Rattle.volume_meaning.specs.HashPaths.{Sought, IsPassed, LeadsDown, HashTrai
 use Rattle.hash_tree.specs.Levels.{bucket_at, child_at, node_of}
 use Rattle.hash_tree.specs.declared.level.Level.{Level}
 use Rattle.hash_tree.specs.declared.path.Open.{Open}
-use Rattle.hash_tree.specs.Inserting.{HasTrail, entry_of}
+use Rattle.hash_tree.specs.Inserting.{HasTrailThere, entry_of}
 use Rattle.hash_tree.specs.Readiness.{PassedDown}
 
 -- a hash trail below a path that is passed is one from the root
@@ -23,7 +23,7 @@ trail_from_root {image} {s} {root} {node} {level} {n} (down _ _ above before is 
 
 -- in the level's node
 pub trail_alone : (g : Layout) (level : Level) (place : Open) (slot to : ℕ) (planned : Image) → place.child ≡ None
-    → Holds planned (bucket_at g level) (entry_of level slot) → HasTrail g level place slot to planned
+    → Holds planned (bucket_at g level) (entry_of level slot) → HasTrailThere g level place slot to planned
 trail_alone g level place slot to planned no_child held = λ image s digest pool cells extends passed.
     let path : PassedTo image s (root_at g) (node_of g level) level.number =
     subst (λ (c : Option ℕ). PassedDown g image s level c) no_child passed in
@@ -37,7 +37,7 @@ pub trail_with_node : (g : Layout) (level : Level) (place : Open) (slot next to 
     → place.child ≡ Some child → level.number < 63 → pool_at g ≤ next → to ≡ next + 32
     → Holds planned (child_at g level) (Child next)
     → Holds planned (next + nibble level.digest (level.number + 1)) (entry_of level slot)
-    → HasTrail g level place slot to planned
+    → HasTrailThere g level place slot to planned
 trail_with_node g level place slot next to child planned has_child levels from is_to led held =
     λ image s digest pool cells extends passed.
     let path : PassedTo image s (root_at g) (node_of g level) level.number × IsPassed image s (bucket_at g level) =

@@ -16,9 +16,9 @@ use Rattle.tamper_rules.specs.declared.numbers.TheConstants.{FAKE_BUCKET, LOST_C
 use Rattle.worm_device.specs.Views.{IsView, ViewState, Viewed}
 use Rattle.worm_device.proofs.Counting.{rose_from}
 use Rattle.worm_device.proofs.Resting.{viewed_self, viewed_then}
-use Rattle.hash_tree.specs.Levels.{AreBounds, IsLedWithin, IsPlaced, IsReached, bucket_at, child_at, level_below, node_of}
-use Rattle.hash_tree.specs.Licences.{AsksBelow}
-use Rattle.hash_tree.specs.Looking.{IsBlankAt, LooksHere}
+use Rattle.hash_tree.specs.Levels.{AreBounds, IsLedWithin, IsLevelPlaced, IsLevelReached, bucket_at, child_at, level_below, node_of}
+use Rattle.hash_tree.specs.Licences.{AsksPathsBelow}
+use Rattle.hash_tree.specs.Looking.{IsBlankAt, LooksAtNode}
 use Rattle.hash_tree.specs.Steps.{ComesTo, here, HasNoneLeft, IsNoBucket, IsNoChild, LeadsBy, EndsAt, IsOpenAt, PassesAbove, StepEnds, Steps, answered_level, candidate, blank_bucket, blank_child, full, no_bucket, no_child}
 use Rattle.hash_tree.specs.declared.level.ChildCell.{ChildCell}
 use Rattle.hash_tree.specs.declared.level.Level.{Level}
@@ -39,8 +39,8 @@ KeepsChildren edge shown image =
 -- led to it is one of a node, if that which led to the first level was
 abbrev pub LeadsDownTo : Layout → ℕ → Image → Level → Level → Type 0
 LeadsDownTo g edge shown first level =
-    (image : Image) → KeepsChildren edge shown image → IsReached g image first
-    → IsReached g image level × (IsLedWithin g image first.led_by → IsLedWithin g image level.led_by)
+    (image : Image) → KeepsChildren edge shown image → IsLevelReached g image first
+    → IsLevelReached g image level × (IsLedWithin g image first.led_by → IsLedWithin g image level.led_by)
 
 -- the path comes down from the first level to this one
 pub record WalksTo (g : Layout) (edge : ℕ) (old mid : ViewState) (first level : Level) : Type 0 where
@@ -50,7 +50,7 @@ pub record WalksTo (g : Layout) (edge : ℕ) (old mid : ViewState) (first level 
   pub further : first.number ≤ level.number
   pub still : IsTrue first.answered → (first.number < level.number) ⊎ IsTrue level.answered
   pub reads : mid.base.reads + 2 * first.number ≤ old.base.reads + 2 * level.number
-  pub placed : IsPlaced g edge mid level
+  pub placed : IsLevelPlaced g edge mid level
   pub comes : IsTrue old.base.tells → ComesTo g edge mid.image level first
   pub leads : IsTrue old.base.tells → LeadsDownTo g edge mid.image first level
 
@@ -64,7 +64,7 @@ with_answer level answered = record {
 }
 
 -- no level is gone down yet
-pub walks_none : (g : Layout) (edge : ℕ) (old : ViewState) (first : Level) → IsPlaced g edge old first
+pub walks_none : (g : Layout) (edge : ℕ) (old : ViewState) (first : Level) → IsLevelPlaced g edge old first
     → WalksTo g edge old old first first
 walks_none g edge old first placed = record {
   viewed = viewed_self old;
@@ -134,15 +134,15 @@ module _ (g : Layout) (edge : ℕ) (old mid new : ViewState) (first level : Leve
   leads_now viewed tells image keeps =
       walk.leads tells image (λ at target before held. keeps at target before (holds_on viewed.image held))
 
-  reached_now : Viewed mid new → IsTrue old.base.tells → IsReached g new.image first → IsReached g new.image level
+  reached_now : Viewed mid new → IsTrue old.base.tells → IsLevelReached g new.image first → IsLevelReached g new.image level
   reached_now viewed tells reached = (leads_now viewed tells new.image (λ at target before held. held) reached).0
 
-  led_now : Viewed mid new → IsTrue old.base.tells → IsReached g new.image first → IsLedWithin g new.image first.led_by
+  led_now : Viewed mid new → IsTrue old.base.tells → IsLevelReached g new.image first → IsLedWithin g new.image first.led_by
       → IsLedWithin g new.image level.led_by
   led_now viewed tells reached = (leads_now viewed tells new.image (λ at target before held. held) reached).1
 
-  reached_under : Viewed mid new → IsTrue old.base.tells → AsksBelow edge old → IsReached g new.lower first
-      → IsReached g new.lower level
+  reached_under : Viewed mid new → IsTrue old.base.tells → AsksPathsBelow edge old → IsLevelReached g new.lower first
+      → IsLevelReached g new.lower level
   reached_under viewed tells asks reached =
       let whole = viewed_then walk.viewed viewed in
       (leads_now viewed tells new.lower (child_below edge new proper
@@ -170,7 +170,7 @@ module _ (g : Layout) (edge : ℕ) (old mid new : ViewState) (first level : Leve
       }
 
   -- a candidate
-  pub ends_fit : (slot bucket : ℕ) → LooksHere g edge level mid new (Ok (Fits slot bucket))
+  pub ends_fit : (slot bucket : ℕ) → LooksAtNode g edge level mid new (Ok (Fits slot bucket))
       → Steps g edge old new first (answered_level level) (Ok (Candidate slot bucket))
   ends_fit slot bucket look = ends_so true (Ok (Candidate slot bucket)) look.viewed look.reads (
     (
@@ -193,7 +193,7 @@ module _ (g : Layout) (edge : ℕ) (old mid new : ViewState) (first level : Leve
   )
 
   -- the path is open here
-  pub ends_open : (place : Open) → LooksHere g edge level mid new (Ok (Ends place))
+  pub ends_open : (place : Open) → LooksAtNode g edge level mid new (Ok (Ends place))
       → Steps g edge old new first level (Ok (End place))
   ends_open place look = ends_so level.answered (Ok (End place)) look.viewed look.reads (
     look.ends.0,
@@ -209,7 +209,7 @@ module _ (g : Layout) (edge : ℕ) (old mid new : ViewState) (first level : Leve
   )
 
   -- it is full
-  pub ends_full : LooksHere g edge level mid new (Ok Last) → Steps g edge old new first level (Ok PathFull)
+  pub ends_full : LooksAtNode g edge level mid new (Ok Last) → Steps g edge old new first level (Ok PathFull)
   ends_full look = ends_so level.answered (Ok PathFull) look.viewed look.reads (
     look.ends.0,
     look.ends.1 ∙ walk.faults,
@@ -224,7 +224,7 @@ module _ (g : Layout) (edge : ℕ) (old mid new : ViewState) (first level : Leve
   )
 
   -- what is shown in a cell that is not planned stands below
-  same_below : (at : ℕ) → Viewed mid new → AsksBelow edge old → at < edge → old.planned at ≡ None
+  same_below : (at : ℕ) → Viewed mid new → AsksPathsBelow edge old → at < edge → old.planned at ≡ None
       → new.lower at ≡ new.image at
   same_below at viewed asks before own =
       let whole = viewed_then walk.viewed viewed in
@@ -292,7 +292,7 @@ module _ (g : Layout) (edge : ℕ) (old mid new : ViewState) (first level : Leve
     )
 
   -- a fault
-  pub ends_fault : (fault : Fault) → LooksHere g edge level mid new (Err fault)
+  pub ends_fault : (fault : Fault) → LooksAtNode g edge level mid new (Err fault)
       → Steps g edge old new first level (Err fault)
   ends_fault Failed look = ends_so level.answered (Err Failed) look.viewed look.reads
       (rose_from _ _ _ walk.faults look.ends)
@@ -307,7 +307,7 @@ module _ (g : Layout) (edge : ℕ) (old mid new : ViewState) (first level : Leve
       look.ends.1)
 
   -- or the path leads on
-  pub walks_on : (child : ChildCell) → LooksHere g edge level mid new (Ok (Leads child))
+  pub walks_on : (child : ChildCell) → LooksAtNode g edge level mid new (Ok (Leads child))
       → WalksTo g edge old new first (level_below level child)
   walks_on child look =
       let good = look.ends.0.1 in

@@ -12,7 +12,7 @@ use Rattle.volume_meaning.specs.HashPaths.{Sought, HashTrail, fingerprint_of, ni
 use Rattle.volume_meaning.specs.Keeping.{sought_in}
 use Rattle.tamper_rules.specs.declared.numbers.TheConstants.{LOST_CHILD}
 use Rattle.ingest_laws.specs.Needs.{BucketCosts}
-use Rattle.worm_device.specs.Overlays.{PlansNothing}
+use Rattle.worm_device.specs.Overlays.{PlansNoMore}
 use Rattle.worm_device.specs.Views.{ViewState}
 use Rattle.worm_device.specs.declared.owner.Owner.{Owner}
 use Rattle.cell_pool.specs.Grants.{TakesFront}
@@ -55,8 +55,8 @@ pub data PlansBucket (g : Layout) (level : Level) (place : Open) (slot at : ℕ)
 
 -- The slot has a hash trail in each image that has every planned cell and in which the path down to the place is
 -- passed, for whatever is sought by the level's digest on a device that has the pool's cells up to here.
-abbrev pub HasTrail : Layout → Level → Open → ℕ → ℕ → Image → Type 0
-HasTrail g level place slot to planned =
+abbrev pub HasTrailThere : Layout → Level → Open → ℕ → ℕ → Image → Type 0
+HasTrailThere g level place slot to planned =
     (image : Image) (s : Sought) → s.digest ≡ level.digest → s.pool ≡ pool_at g → to ≤ s.cells
     → Extends planned image → PassedDown g image s level place.child → HashTrail image s slot (root_at g) 0
 
@@ -69,18 +69,19 @@ TakesItsNeed g level place image =
 
 -- The entry is planned, and nothing from the pool's next cell on; the slot has a hash trail; the entry takes what
 -- its identifier needs; and a tree that has its shape keeps it.
-pub record IsInserted (g : Layout) (level : Level) (place : Open) (slot at : ℕ) (pool rest : Pool) (old new : ViewState)
+pub record IsEntryInserted (g : Layout) (level : Level) (place : Open) (slot at : ℕ) (pool rest : Pool)
+    (old new : ViewState)
     : Type 0 where
   pub plans : PlansBucket g level place slot at pool rest old new
   pub beyond : (cell : ℕ) → rest.next ≤ cell → new.planned cell ≡ None
-  pub trail : HasTrail g level place slot rest.next new.planned
+  pub trail : HasTrailThere g level place slot rest.next new.planned
   pub need : TakesItsNeed g level place old.image
   pub rooted : IsRootedBefore g level place pool.next old.image
       → IsRooted g level place slot pool.next rest.next old.image new.image
 
 -- The place's blank cell, one of the level's node, is planned already, for somebody else; and the evidence is the child
 -- cell that led to the node, which stands below what is planned.
-pub record IsTaken (g : Layout) (level : Level) (place : Open) (view : ViewState) (e : Evidence) : Type 0 where
+pub record IsPlaceTaken (g : Layout) (level : Level) (place : Open) (view : ViewState) (e : Evidence) : Type 0 where
   pub planned : IsWritten view.planned (blank_of place)
   pub shown : IsWritten view.image (blank_of place)
   pub owner : Owner
@@ -97,13 +98,14 @@ pub record IsTaken (g : Layout) (level : Level) (place : Open) (view : ViewState
   pub leads : IsTrue view.base.tells → IsRecordCell (Child (node_of g level)) e.cell e.found
 
 -- How inserting an entry may end, and why. It reads nothing, so that no read fails.
-abbrev pub InsertEnds : Layout → Level → Open → ℕ → Pool → Pool → ViewState → ViewState → Result ℕ GrowthFault → Type 0
-InsertEnds g level place slot pool rest old new (Ok at) =
-    IsInserted g level place slot at pool rest old new
-InsertEnds g level place slot pool rest old new (Err (Fault Failed)) = ⊥
-InsertEnds g level place slot pool rest old new (Err (Fault (Tampered e))) =
-    IsTaken g level place old e × (rest ≡ pool) × PlansNothing old new
-InsertEnds g level place slot pool rest old new (Err NoMemory) = rest ≡ pool
+abbrev pub InsertEntryEnds : Layout → Level → Open → ℕ → Pool → Pool → ViewState → ViewState → Result ℕ GrowthFault
+    → Type 0
+InsertEntryEnds g level place slot pool rest old new (Ok at) =
+    IsEntryInserted g level place slot at pool rest old new
+InsertEntryEnds g level place slot pool rest old new (Err (Fault Failed)) = ⊥
+InsertEntryEnds g level place slot pool rest old new (Err (Fault (Tampered e))) =
+    IsPlaceTaken g level place old e × (rest ≡ pool) × PlansNoMore old new
+InsertEntryEnds g level place slot pool rest old new (Err NoMemory) = rest ≡ pool
 
 -- Inserting a slot's entry where the path of a digest ends.
 pub record InsertsEntry (g : Layout) (level : Level) (place : Open) (slot : ℕ) (pool rest : Pool) (old new : ViewState)
@@ -113,4 +115,4 @@ pub record InsertsEntry (g : Layout) (level : Level) (place : Open) (slot : ℕ)
   pub fresh : new.fresh ≡ old.fresh
   pub base : new.base ≡ old.base
   pub loans : new.loans ≡ old.loans
-  pub ends : InsertEnds g level place slot pool rest old new result
+  pub ends : InsertEntryEnds g level place slot pool rest old new result

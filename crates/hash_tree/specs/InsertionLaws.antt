@@ -14,7 +14,7 @@ use Rattle.worm_device.specs.declared.owner.Owner.{Owner}
 use Rattle.hash_tree.specs.Levels.{IsLedWithin}
 use Rattle.hash_tree.specs.declared.level.Level.{Level}
 use Rattle.hash_tree.specs.declared.path.Open.{Open}
-use Rattle.hash_tree.specs.Inserting.{IsTaken}
+use Rattle.hash_tree.specs.Inserting.{IsPlaceTaken}
 
 -- Where a planned cell lies that is for this owner: in a block or a node of the lower image, of the owner's list or of
 -- the tree; or in one that begins where nothing below is asked.
@@ -31,7 +31,7 @@ pub data LiesByOwner (g : Layout) (view : ViewState) (cell : ℕ) (owner : Owner
 abbrev pub TakenIsBroken : Type 0
 TakenIsBroken =
     (g : Layout) (level : Level) (place : Open) (view : ViewState) (e : Evidence)
-    → IsTaken g level place view e → IsTrue view.base.tells
+    → IsPlaceTaken g level place view e → IsTrue view.base.tells
     → IsVolume g.cells view.lower g → IsEdge g view.lower view.lower view.fresh
     → IsLedWithin g view.lower level.led_by
     → ((cell : ℕ) (owner : Owner) → view.owners cell ≡ Some owner → LiesByOwner g view cell owner)

@@ -45,26 +45,26 @@ pub record AreBounds (g : Layout) (edge : ℕ) : Type 0 where
   pub to : edge ≤ g.cells
 
 -- the node lies within the bounds, where it is not the root
-abbrev pub IsWithin : Layout → ℕ → Option ChildCell → Type 0
-IsWithin g edge None = ⊤
-IsWithin g edge (Some child) = (pool_at g ≤ child.target) × (child.target + 32 ≤ edge)
+abbrev pub IsNodeWithin : Layout → ℕ → Option ChildCell → Type 0
+IsNodeWithin g edge None = ⊤
+IsNodeWithin g edge (Some child) = (pool_at g ≤ child.target) × (child.target + 32 ≤ edge)
 
 -- the child cell, where there is one, stands and leads to the node
-abbrev pub IsLed : Image → Option ChildCell → Type 0
-IsLed image None = ⊤
-IsLed image (Some child) =
+abbrev pub IsLedByChild : Image → Option ChildCell → Type 0
+IsLedByChild image None = ⊤
+IsLedByChild image (Some child) =
     (image child.cell ≡ Some child.found) × IsRecordCell (Child child.target) child.cell child.found
 
 -- A level as it is on every path: its node is the root, or lies within the bounds; and where the view tells its image,
 -- the child cell that led there stands.
-pub record IsPlaced (g : Layout) (edge : ℕ) (view : ViewState) (level : Level) : Type 0 where
+pub record IsLevelPlaced (g : Layout) (edge : ℕ) (view : ViewState) (level : Level) : Type 0 where
   pub number : level.number < 64
-  pub within : IsWithin g edge level.led_by
-  pub led : IsTrue view.base.tells → IsLed view.image level.led_by
+  pub within : IsNodeWithin g edge level.led_by
+  pub led : IsTrue view.base.tells → IsLedByChild view.image level.led_by
 
 -- the level's node is one of the volume's in this image: the root, or reached from there
-abbrev pub IsReached : Layout → Image → Level → Type 0
-IsReached g image level = IsNode g image level.number (node_of g level)
+abbrev pub IsLevelReached : Layout → Image → Level → Type 0
+IsLevelReached g image level = IsNode g image level.number (node_of g level)
 
 -- the cell is a child cell of a node of the volume
 pub record IsChildPlace (g : Layout) (image : Image) (cell : ℕ) : Type 0 where

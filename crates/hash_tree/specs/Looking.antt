@@ -65,9 +65,9 @@ pub record ReadsChild (at pool edge : ℕ) (old new : ViewState) (result : Resul
   pub ends : ChildEnds at pool edge old new result
 
 -- whether a bucket is a candidate that was not answered yet
-abbrev pub IsCandidate : Level → HeldBucket → Bool → Type 0
-IsCandidate level held true = (level.answered ≡ false) × (held.fingerprint ≡ fingerprint_of level.digest)
-IsCandidate level held false = IsTrue level.answered ⊎ (held.fingerprint ≢ fingerprint_of level.digest)
+abbrev pub IsCandidateBucket : Level → HeldBucket → Bool → Type 0
+IsCandidateBucket level held true = (level.answered ≡ false) × (held.fingerprint ≡ fingerprint_of level.digest)
+IsCandidateBucket level held false = IsTrue level.answered ⊎ (held.fingerprint ≢ fingerprint_of level.digest)
 
 -- what ends a path is blank, and no candidate is left above a blank child cell
 abbrev pub IsBlankAt : Layout → Image → Level → Option ℕ → Type 0
@@ -91,12 +91,12 @@ IsSeenHere g image level Last = HasNoneLeft g image level
 IsSeenHere g image level (Leads child) = HasNoneLeft g image level × (image (child_at g level) ≡ Some child.found)
 
 -- how a look may end, and why
-abbrev pub HereEnds : Layout → ℕ → Level → ViewState → ViewState → Result Here Fault → Type 0
-HereEnds g edge level old new (Ok here) =
+abbrev pub NodeLookEnds : Layout → ℕ → Level → ViewState → ViewState → Result Here Fault → Type 0
+NodeLookEnds g edge level old new (Ok here) =
     IsHere g edge level here × (new.base.faults ≡ old.base.faults)
     × (IsTrue old.base.tells → IsSeenHere g new.image level here)
-HereEnds g edge level old new (Err Failed) = Rose old.base.faults new.base.faults
-HereEnds g edge level old new (Err (Tampered e)) =
+NodeLookEnds g edge level old new (Err Failed) = Rose old.base.faults new.base.faults
+NodeLookEnds g edge level old new (Err (Tampered e)) =
     (new.base.faults ≡ old.base.faults)
     × (((e.rule ≡ FAKE_BUCKET) × (e.cell ≡ bucket_at g level)
     × (IsTrue old.base.tells → IsNoBucket new.image (bucket_at g level) e.found))
@@ -105,9 +105,9 @@ HereEnds g edge level old new (Err (Tampered e)) =
     → HasNoneLeft g new.image level × IsNoChild new.image (pool_at g) edge (child_at g level) e.found)))
 
 -- a look at a node costs two reads at most
-pub record LooksHere (g : Layout) (edge : ℕ) (level : Level) (old new : ViewState) (result : Result Here Fault)
+pub record LooksAtNode (g : Layout) (edge : ℕ) (level : Level) (old new : ViewState) (result : Result Here Fault)
     : Type 0 where
   pub viewed : Viewed old new
   pub reads : new.base.reads ≤ old.base.reads + 2
   pub half_byte : nibble level.digest level.number < 16
-  pub ends : HereEnds g edge level old new result
+  pub ends : NodeLookEnds g edge level old new result

@@ -9,8 +9,8 @@ use Rattle.cell_pool.specs.declared.planning.PlanFault.TheVariants.{Taken, NoMem
 use Rattle.hash_tree.specs.declared.level.ChildCell.{ChildCell}
 
 -- a taken cell is blamed on the child cell that led to its node: the root's cells are nobody else's
-abbrev pub Names : Option ChildCell → PlanFault → GrowthFault → Type 0
-Names led NoMemory named = named ≡ growth.NoMemory
-Names None Taken named = ⊥
-Names (Some child) Taken named =
+abbrev pub BlamesChild : Option ChildCell → PlanFault → GrowthFault → Type 0
+BlamesChild led NoMemory named = named ≡ growth.NoMemory
+BlamesChild None Taken named = ⊥
+BlamesChild (Some child) Taken named =
     named ≡ growth.Fault (Tampered (record { rule = LOST_CHILD; cell = child.cell; found = child.found }))

@@ -3,7 +3,7 @@ use Rattle.std.specs.Prelude.{◌≡◌, ◌≢◌, ◌<◌, ◌≤◌, ℕ, Opt
 use Rattle.cell_types.specs.Image.{Image}
 use Rattle.cell_types.specs.Layout.{Layout, root_at, pool_at}
 use Rattle.volume_meaning.specs.HashPaths.{Sought, IsPassed, PassedTo}
-use Rattle.hash_tree.specs.Levels.{IsLed, IsWithin, bucket_at, node_of}
+use Rattle.hash_tree.specs.Levels.{IsLedByChild, IsNodeWithin, bucket_at, node_of}
 use Rattle.hash_tree.specs.Steps.{IsOpenOf}
 use Rattle.hash_tree.specs.declared.level.Level.{Level}
 use Rattle.hash_tree.specs.declared.path.Open.{Open}
@@ -39,13 +39,13 @@ cost_of place = cost_in place.child
 -- A path ends at this place of the level's node, and what may be planned there: the node lies before the cells that are
 -- free, nothing is planned in these, and the place's blank cell is not planned for the node itself, nor for anybody
 -- where the node is the root. The child cell that led to the node stands below what is planned.
-pub record IsReady (g : Layout) (level : Level) (place : Open) (next : ℕ) (view : ViewState) : Type 0 where
+pub record IsReadyPlace (g : Layout) (level : Level) (place : Open) (next : ℕ) (view : ViewState) : Type 0 where
   pub number : level.number < 64
   pub open_at : IsOpenOf g level place
   pub from : pool_at g ≤ view.fresh
   pub fresh : view.fresh ≤ next
-  pub within : IsWithin g view.fresh level.led_by
+  pub within : IsNodeWithin g view.fresh level.led_by
   pub beyond : (cell : ℕ) → next ≤ cell → view.planned cell ≡ None
   pub of_root : level.led_by ≡ None → view.planned (blank_of place) ≡ None
   pub of_others : view.owners (blank_of place) ≢ Some (owner_in g (node_of g level))
-  pub led : IsTrue view.base.tells → IsLed view.lower level.led_by
+  pub led : IsTrue view.base.tells → IsLedByChild view.lower level.led_by

@@ -6,7 +6,7 @@ use Rattle.cell_types.specs.declared.record_cell.RecordCell.TheVariants.{Bucket,
 use Rattle.volume_meaning.specs.Volumes.{Holds, IsWritten}
 use Rattle.volume_meaning.specs.HashPaths.{fingerprint_of, nibble}
 use Rattle.volume_meaning.specs.Nodes.{IsNode, IsOnPath}
-use Rattle.ingest_laws.specs.ListShapes.{Adds}
+use Rattle.ingest_laws.specs.ListShapes.{AddsOneCell}
 use Rattle.ingest_laws.specs.TreeShapes.{IsWellRooted}
 use Rattle.hash_tree.specs.Levels.{bucket_at, child_at, node_of}
 use Rattle.hash_tree.specs.declared.level.Level.{Level}
@@ -25,12 +25,12 @@ pub record IsRootedBefore (g : Layout) (level : Level) (place : Open) (next : �
 -- What an entry adds to an image, and costs: one cell of the journal for each cell that is planned, and the cells that
 -- the pool gave.
 pub data TreeGrows (g : Layout) (level : Level) (slot next to : ℕ) (old new : Image) (cost : ℕ) : Type 0 where
-  in_bucket : Adds (bucket_at g level) old new
+  in_bucket : AddsOneCell (bucket_at g level) old new
       → Holds new (bucket_at g level) (Bucket slot (fingerprint_of level.digest)) → to ≡ next → cost ≡ 1
       → TreeGrows g level slot next to old new cost
-  in_new_node : (mid : Image) → level.number < 63 → Adds (child_at g level) old mid
+  in_new_node : (mid : Image) → level.number < 63 → AddsOneCell (child_at g level) old mid
       → Holds new (child_at g level) (Child next)
-      → Adds (next + nibble level.digest (level.number + 1)) mid new
+      → AddsOneCell (next + nibble level.digest (level.number + 1)) mid new
       → Holds new (next + nibble level.digest (level.number + 1)) (Bucket slot (fingerprint_of level.digest))
       → to ≡ next + 32 → cost ≡ 34 → TreeGrows g level slot next to old new cost
 

@@ -14,8 +14,8 @@ use Rattle.tamper_rules.specs.Rules.{IsPlaceOf}
 use Rattle.tamper_rules.specs.declared.numbers.TheConstants.{FAKE_BUCKET, LOST_CHILD}
 use Rattle.worm_device.specs.Counts.{Rose}
 use Rattle.worm_device.specs.Views.{ViewState, Viewed}
-use Rattle.hash_tree.specs.Levels.{IsLedWithin, IsPlaced, IsReached, bucket_at, child_at, level_below, node_of}
-use Rattle.hash_tree.specs.Licences.{AsksBelow, IsLicensedBoth}
+use Rattle.hash_tree.specs.Levels.{IsLedWithin, IsLevelPlaced, IsLevelReached, bucket_at, child_at, level_below, node_of}
+use Rattle.hash_tree.specs.Licences.{AsksPathsBelow, IsLicensedBoth}
 use Rattle.hash_tree.specs.declared.level.ChildCell.{ChildCell}
 use Rattle.hash_tree.specs.declared.level.Level.{Level}
 use Rattle.hash_tree.specs.declared.path.Open.{Open}
@@ -109,8 +109,8 @@ pub record IsPassedUpTo (g : Layout) (edge : ℕ) (image : Image) (root : ℕ) (
   pub answered : IsTrue level.answered → IsPassed image s (bucket_at g level)
 
 -- Whatever is sought: where the path was passed up to the first level, it is passed up to the last.
-abbrev pub GoesOn : Layout → ℕ → Image → Level → Level → Type 0
-GoesOn g edge image first last =
+abbrev pub PathGoesOn : Layout → ℕ → Image → Level → Level → Type 0
+PathGoesOn g edge image first last =
     (root : ℕ) (s : Sought) → IsPassedUpTo g edge image root s first
     → PassedTo image s root (node_of g last) last.number
 
@@ -172,11 +172,11 @@ pub record Steps (g : Layout) (edge : ℕ) (old new : ViewState) (first last : L
   pub digest : last.digest ≡ first.digest
   pub further : first.number ≤ last.number
   pub reads : new.base.reads + 2 * first.number ≤ old.base.reads + 2 * last.number + 2
-  pub placed : IsPlaced g edge new last
-  pub goes_on : IsTrue old.base.tells → GoesOn g edge new.image first last
-  pub reached : IsTrue old.base.tells → IsReached g new.image first → IsReached g new.image last
-  pub led_within : IsTrue old.base.tells → IsReached g new.image first → IsLedWithin g new.image first.led_by
+  pub placed : IsLevelPlaced g edge new last
+  pub goes_on : IsTrue old.base.tells → PathGoesOn g edge new.image first last
+  pub reached : IsTrue old.base.tells → IsLevelReached g new.image first → IsLevelReached g new.image last
+  pub led_within : IsTrue old.base.tells → IsLevelReached g new.image first → IsLedWithin g new.image first.led_by
       → IsLedWithin g new.image last.led_by
-  pub reached_below : IsTrue old.base.tells → AsksBelow edge old → IsReached g new.lower first
-      → IsReached g new.lower last
+  pub reached_below : IsTrue old.base.tells → AsksPathsBelow edge old → IsLevelReached g new.lower first
+      → IsLevelReached g new.lower last
   pub ends : StepEnds g edge old new first last result

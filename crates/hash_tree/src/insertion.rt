@@ -27,15 +27,15 @@
 //!
 //! It reads nothing. `specs/Inserting.antt` says what an insertion does.
 ghost use Rattle.std.specs.Prelude.{◌≡◌, ◌<◌, ◌≤◌, IsSome};
-ghost use Rattle.cell_pool.specs.Grants.{room_of};
+ghost use Rattle.cell_pool.specs.Grants.{free_cells};
 ghost use Rattle.cell_types.specs.declared.geometry.TheConstants.{MAX_SLOTS};
 ghost use Rattle.volume_meaning.specs.declared.nodes.TheConstants.{NODE_CELLS};
 ghost use Rattle.volume_meaning.specs.HashPaths.{fingerprint_of};
 ghost use Rattle.cell_pool.specs.declared.planning.PlanFault.TheVariants as plan;
 ghost use Rattle.worm_device.specs.Overlays.{of_overlay};
 ghost use Rattle.hash_tree.specs.Inserting.{InsertsEntry};
-ghost use Rattle.hash_tree.specs.Naming.{Names};
-ghost use Rattle.hash_tree.specs.Readiness.{IsReady};
+ghost use Rattle.hash_tree.specs.Naming.{BlamesChild};
+ghost use Rattle.hash_tree.specs.Readiness.{IsReadyPlace};
 
 use crate::digests::nibble_of;
 use crate::level::{ChildCell, Level};
@@ -60,8 +60,8 @@ pub fn insert<V: View>(
     slot: u32,
 ) -> Result<u32, GrowthFault>
     requires slot { slot < MAX_SLOTS }
-    requires room { NODE_CELLS ≤ room_of pool.old }
-    requires ready { IsReady volume.now.geometry level.now place pool.old.next (of_overlay V.seen overlay.old) }
+    requires room { NODE_CELLS ≤ free_cells pool.old }
+    requires ready { IsReadyPlace volume.now.geometry level.now place pool.old.next (of_overlay V.seen overlay.old) }
     ensures { InsertsEntry volume.now.geometry level.now place slot pool.old pool.new
         (of_overlay V.seen overlay.old) (of_overlay V.seen overlay.new) result }
 {
@@ -118,7 +118,7 @@ fn fingerprint(digest: &[u8; 32]) -> [u8; 7]
 /// Why the first cell of an entry was not planned: where it is taken, its node is not the root.
 fn refusal(fault: PlanFault, led_by: &Option<ChildCell>) -> GrowthFault
     requires led { fault ≡ plan.Taken → IsSome led_by.now }
-    ensures { Names led_by.now fault result }
+    ensures { BlamesChild led_by.now fault result }
 {
     match fault {
         PlanFault::NoMemory => GrowthFault::NoMemory,

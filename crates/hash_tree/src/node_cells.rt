@@ -1,7 +1,7 @@
 //! The cells of one node.
 ghost use Rattle.std.specs.Prelude.{◌<◌, ◌≤◌};
-ghost use Rattle.hash_tree.specs.Levels.{AreBounds, IsPlaced};
-ghost use Rattle.hash_tree.specs.Looking.{IsCandidate, LooksHere, ReadsBucket, ReadsChild};
+ghost use Rattle.hash_tree.specs.Levels.{AreBounds, IsLevelPlaced};
+ghost use Rattle.hash_tree.specs.Looking.{IsCandidateBucket, LooksAtNode, ReadsBucket, ReadsChild};
 
 use crate::digests::{is_fingerprint, nibble_of};
 use crate::level::{ChildCell, Level};
@@ -24,8 +24,8 @@ pub fn look_here<V: View>(
 ) -> Result<Here, Fault>
     requires size { volume.now.geometry.cells ≤ (V.seen view.old).cells }
     requires bounds { AreBounds volume.now.geometry edge }
-    requires level { IsPlaced volume.now.geometry edge (V.seen view.old) level.now }
-    ensures { LooksHere volume.now.geometry edge level.now (V.seen view.old) (V.seen view.new) result }
+    requires level { IsLevelPlaced volume.now.geometry edge (V.seen view.old) level.now }
+    ensures { LooksAtNode volume.now.geometry edge level.now (V.seen view.old) (V.seen view.new) result }
 {
     let node = level.node(&volume.geometry);
     let x = u32::from(nibble_of(&level.digest, level.number));
@@ -57,7 +57,7 @@ pub fn look_here<V: View>(
 
 /// Whether the level's bucket is a candidate that was not answered yet.
 fn is_candidate(level: &Level, held: &HeldBucket) -> bool
-    ensures { IsCandidate level.now held.now result }
+    ensures { IsCandidateBucket level.now held.now result }
 {
     if level.answered {
         return false;

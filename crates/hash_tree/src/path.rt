@@ -1,6 +1,6 @@
 //! The path of a digest.
 ghost use Rattle.std.specs.Prelude.{◌≤◌};
-ghost use Rattle.hash_tree.specs.Levels.{AreBounds, IsPlaced};
+ghost use Rattle.hash_tree.specs.Levels.{AreBounds, IsLevelPlaced};
 ghost use Rattle.hash_tree.specs.Steps.{Steps};
 
 use crate::level::Level;
@@ -42,7 +42,7 @@ pub fn next_candidate<V: View>(
 ) -> Result<PathStep, Fault>
     requires size { volume.now.geometry.cells ≤ (V.seen view.old).cells }
     requires bounds { AreBounds volume.now.geometry edge }
-    requires level { IsPlaced volume.now.geometry edge (V.seen view.old) level.old }
+    requires level { IsLevelPlaced volume.now.geometry edge (V.seen view.old) level.old }
     ensures { Steps volume.now.geometry edge (V.seen view.old) (V.seen view.new) level.old level.new result }
 {
     loop {

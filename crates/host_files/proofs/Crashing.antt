@@ -4,14 +4,14 @@ use Rattle.std.proofs.Common.{◌∙◌, ap, sym, subst, inl, inr, ⊎_elim}
 use Rattle.std.proofs.lemmas.Option.{none-some, same_Some}
 use Rattle.cell_types.specs.Image.{Between}
 use Rattle.worm_device.specs.State.{LeftSince}
-use Rattle.host_files.specs.Cells.{cell_in, image_of}
+use Rattle.host_files.specs.Cells.{cell_in, image_of_bytes}
 use Rattle.host_files.specs.Crashes.{CrashLeaves, CouldLeave, CrashesAreSeen}
-use Rattle.host_files.specs.Device.{device_at, device_over, instant_of, StandsIn, SureStands}
-use Rattle.host_files.specs.File.{FileState, Held, Told}
+use Rattle.host_files.specs.Device.{device_at, device_over, held_instant, StandsIn, SureStands}
+use Rattle.host_files.specs.File.{FileState, HeldBytes, Told}
 
 -- what a crash leaves lies between what is sure and what stands
-pub crash_between : (cells : ℕ) (held : Held) (bytes : List ℕ) → StandsIn (instant_of cells held)
-    → CrashLeaves held bytes → Between (image_of cells held.sure) (image_of cells held.bytes) (image_of cells bytes)
+pub crash_between : (cells : ℕ) (held : HeldBytes) (bytes : List ℕ) → StandsIn (held_instant cells held)
+    → CrashLeaves held bytes → Between (image_of_bytes cells held.sure) (image_of_bytes cells held.bytes) (image_of_bytes cells bytes)
 crash_between cells held bytes stands leaves =
     let as_cell = λ (cell : ℕ) (part : List ℕ). if nat_lt cell cells then cell_in part else None in record {
       above = record {
@@ -33,7 +33,7 @@ crash_between cells held bytes stands leaves =
 -- a crash at a moment of the file is one at that moment of the device
 seen_at : (cells reads faults parts since : ℕ) (told : Told) (bytes : List ℕ) → SureStands cells (Some told)
     → CouldLeave told since bytes
-    → LeftSince (device_at cells reads faults parts (Some told)) since (image_of cells bytes)
+    → LeftSince (device_at cells reads faults parts (Some told)) since (image_of_bytes cells bytes)
 seen_at cells reads faults parts since told bytes stands could =
     ⊎_elim
     (λ left. inl (crash_between cells told.now bytes stands.now left))

@@ -7,7 +7,7 @@ use Rattle.std.proofs.lemmas.List.{take-append-drop}
 use Rattle.std.proofs.lemmas.Option.{none-some}
 use Rattle.cell_types.specs.Bytes.{IsCell}
 use Rattle.cell_types.specs.Image.{Extends, ChangesOnly}
-use Rattle.host_files.specs.Cells.{are_zeros, cell_in, image_of}
+use Rattle.host_files.specs.Cells.{are_zeros, cell_in, image_of_bytes}
 use Rattle.host_files.specs.File.{part_at, patched}
 use Rattle.host_files.specs.Proper.{within_image}
 use Rattle.host_files.proofs.PageCells.{put_holds, put_others}
@@ -33,39 +33,39 @@ written_in bytes sixteen written =
 
 -- each cell but the one that was put is as it was
 pub elsewhere : (cells at cell : ℕ) (put bytes : List ℕ) → 16 * at + 16 ≤ length bytes → length put ≡ 16 → cell ≢ at
-    → image_of cells (patched (16 * at) put bytes) cell ≡ image_of cells bytes cell
+    → image_of_bytes cells (patched (16 * at) put bytes) cell ≡ image_of_bytes cells bytes cell
 elsewhere cells at cell put bytes within sixteen apart =
     ap (λ piece. if nat_lt cell cells then cell_in piece else None) (put_others at (16 * at) 16 cell bytes put refl
     refl sixteen (omega arith) apart)
 
 -- and that one is what was put
 pub here : (cells at : ℕ) (put bytes : List ℕ) → at < cells → 16 * at + 16 ≤ length bytes → length put ≡ 16
-    → image_of cells (patched (16 * at) put bytes) at ≡ cell_in put
+    → image_of_bytes cells (patched (16 * at) put bytes) at ≡ cell_in put
 here cells at put bytes inside within sixteen =
     within_image cells at (patched (16 * at) put bytes) inside
     ∙ ap cell_in (put_holds at (16 * at) 16 bytes put refl sixteen (omega arith))
 
 -- what was written stays, where a blank cell was put
 pub put_extends : (cells at : ℕ) (put bytes : List ℕ) → 16 * at + 16 ≤ length bytes → length put ≡ 16
-    → image_of cells bytes at ≡ None → Extends (image_of cells bytes) (image_of cells (patched (16 * at) put bytes))
+    → image_of_bytes cells bytes at ≡ None → Extends (image_of_bytes cells bytes) (image_of_bytes cells (patched (16 * at) put bytes))
 put_extends cells at put bytes within sixteen free = record {
   keeps = λ cell value stands.
       ⊎_elim
-      (λ same. absurd (none-some value (sym free ∙ ap (image_of cells bytes) (sym same.1) ∙ stands)))
+      (λ same. absurd (none-some value (sym free ∙ ap (image_of_bytes cells bytes) (sym same.1) ∙ stands)))
       (λ apart. elsewhere cells at cell put bytes within sixteen apart.1 ∙ stands)
       (eqb_tells cell at);
 }
 
 -- and only that cell changes
 pub put_changes : (cells at : ℕ) (value bytes : List ℕ) → at < cells → 16 * at + 16 ≤ length bytes → IsCell value
-    → image_of cells bytes at ≡ None
-    → ChangesOnly at value (image_of cells bytes) (image_of cells (patched (16 * at) value bytes))
+    → image_of_bytes cells bytes at ≡ None
+    → ChangesOnly at value (image_of_bytes cells bytes) (image_of_bytes cells (patched (16 * at) value bytes))
 put_changes cells at value bytes inside within is free = λ cell.
     ⊎_elim
     (λ same. inr (
       same.1,
-      ap (image_of cells bytes) same.1 ∙ free,
-      ap (image_of cells (patched (16 * at) value bytes)) same.1 ∙ here cells at value bytes inside within is.sixteen
+      ap (image_of_bytes cells bytes) same.1 ∙ free,
+      ap (image_of_bytes cells (patched (16 * at) value bytes)) same.1 ∙ here cells at value bytes inside within is.sixteen
           ∙ written_in value is.sixteen is.written,
     ))
     (λ apart. inl (elsewhere cells at cell value bytes within is.sixteen apart.1))

@@ -8,7 +8,7 @@ use Rattle.worm_device.specs.declared.device.Failed.{Failed}
 use Rattle.host_files.specs.Cells.{cell_bytes, cell_in}
 use Rattle.host_files.specs.File.{patched}
 use Rattle.host_files.proofs.PageCells.{put_holds, put_others}
-use Rattle.host_files.specs.Pages.{PageHolds, PagesHold, IsOn, AreApart}
+use Rattle.host_files.specs.Pages.{PageHolds, PagesHold, IsOn, ArePagesApart}
 use Rattle.host_files.specs.declared.pages.Page.{Page}
 
 -- what is got from a list after a set: the new element, or an old one from another place
@@ -41,9 +41,9 @@ on_set pages frame page other number on =
     (got pages frame page other on.0 on.1)
 
 -- no two are the same page, where the one that is new is nowhere else
-pub apart_set : (pages : List Page) (frame : ℕ) (page : Page) → AreApart pages
+pub apart_set : (pages : List Page) (frame : ℕ) (page : Page) → ArePagesApart pages
     → ((number other : ℕ) → page.number ≡ Some number → IsOn pages other number → other ≡ frame)
-    → AreApart (set pages frame page)
+    → ArePagesApart (set pages frame page)
 apart_set pages frame page apart alone = λ number one two on_one on_two.
     ⊎_elim
     (λ first.
@@ -85,7 +85,7 @@ holds_patched cells at piece bytes page within sixteen old other = λ number pla
 
 -- so do the pages, where the cell's page, if it is held, has changed and holds what it is to
 pub patched_set : (cells at frame : ℕ) (piece bytes : List ℕ) (pages : List Page) (page : Page)
-    → 16 * at + 16 ≤ length bytes → length piece ≡ 16 → IsOn pages frame (at / 256) → AreApart pages
+    → 16 * at + 16 ≤ length bytes → length piece ≡ 16 → IsOn pages frame (at / 256) → ArePagesApart pages
     → PagesHold cells bytes pages → PageHolds cells (patched (16 * at) piece bytes) page
     → PagesHold cells (patched (16 * at) piece bytes) (set pages frame page)
 patched_set cells at frame piece bytes pages page within sixteen on apart old new = λ other found is.

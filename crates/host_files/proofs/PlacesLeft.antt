@@ -12,9 +12,9 @@ use Rattle.worm_device.proofs.Counting.{rose_or_still}
 use Rattle.worm_device.proofs.Elapsing.{called_self, called_then}
 use Rattle.worm_device.proofs.Images.{extends_self}
 use Rattle.worm_device.proofs.Rows.{changes_more}
-use Rattle.host_files.specs.Cells.{cell_in, cell_bytes, image_of}
+use Rattle.host_files.specs.Cells.{cell_in, cell_bytes, image_of_bytes}
 use Rattle.host_files.specs.Device.{device_at, now_in, SureStands}
-use Rattle.host_files.specs.File.{Held, Told, Puts, PutsPlaces, LeavesPlaces, part_at, patched}
+use Rattle.host_files.specs.File.{HeldBytes, Told, PutsBytes, PutsPlaces, LeavesPlaces, part_at, patched}
 use Rattle.host_files.specs.Proper.{within_image}
 use Rattle.host_files.specs.Pages.{IsNowhere, Mirror}
 use Rattle.host_files.specs.Rows.{AreRow}
@@ -29,7 +29,7 @@ use Rattle.host_files.proofs.Time.{called_same, called_step}
 abbrev pub IsLeft : ℕ → ℕ → List ℕ → Type 0 → Option Told → Option Told → Type 0
 IsLeft at place bytes Torn old mid =
     (mid ≡ old)
-    ⊎ ((put : List ℕ) × (length put ≡ 16) × Puts (16 * (at + place)) put old mid
+    ⊎ ((put : List ℕ) × (length put ≡ 16) × PutsBytes (16 * (at + place)) put old mid
     × ((put ≡ part_at (16 * place) bytes) ⊎ Torn))
 
 -- places that were put are left
@@ -98,7 +98,7 @@ mirror_row cells at count bytes Torn old new pages inside low gone free left mir
 -- one place, as far as every call keeps it
 called_left : (cells reads faults parts at : ℕ) (put : List ℕ) (told told' : Option Told) → at < cells
     → ((t : Told) → told ≡ Some t → 16 * cells ≤ length t.now.bytes) → length put ≡ 16
-    → IfSome told (λ t. replicate 16 0 ≡ cell_bytes t.now.bytes at) → Puts (16 * at) put told told'
+    → IfSome told (λ t. replicate 16 0 ≡ cell_bytes t.now.bytes at) → PutsBytes (16 * at) put told told'
     → Called (device_at cells reads faults parts told) (device_at cells reads faults parts told')
 called_left cells reads faults parts at put None None inside within sixteen blank step =
     called_same cells reads reads faults faults parts parts None (omega arith) (omega arith) (omega arith)
@@ -106,31 +106,31 @@ called_left cells reads faults parts at put None (Some new) inside within sixtee
 called_left cells reads faults parts at put (Some old) None inside within sixteen blank step = absurd step
 called_left cells reads faults parts at put (Some old) (Some new) inside within sixteen blank step =
     let room : 16 * at + 16 ≤ length old.now.bytes = omega (arith, within old refl, inside) in
-    let free : image_of cells old.now.bytes at ≡ None = within_image cells at old.now.bytes inside
+    let free : image_of_bytes cells old.now.bytes at ≡ None = within_image cells at old.now.bytes inside
     ∙ ap cell_in (sym blank) in
-    let bytes : new.now.bytes ≡ patched (16 * at) put old.now.bytes = ap (λ (h : Held). h.bytes) step.now in
-    let sure : new.now.sure ≡ old.now.sure = ap (λ (h : Held). h.sure) step.now in
+    let bytes : new.now.bytes ≡ patched (16 * at) put old.now.bytes = ap (λ (h : HeldBytes). h.bytes) step.now in
+    let sure : new.now.sure ≡ old.now.sure = ap (λ (h : HeldBytes). h.sure) step.now in
     called_step cells reads faults faults parts parts old new _ step
-    (subst (λ b. Extends (image_of cells old.now.bytes) (image_of cells b)) (sym bytes)
+    (subst (λ b. Extends (image_of_bytes cells old.now.bytes) (image_of_bytes cells b)) (sym bytes)
     (put_extends cells at put old.now.bytes room sixteen free))
-    (subst (λ b. Extends (image_of cells old.now.sure) (image_of cells b)) (sym sure)
-    (extends_self (image_of cells old.now.sure)))
+    (subst (λ b. Extends (image_of_bytes cells old.now.sure) (image_of_bytes cells b)) (sym sure)
+    (extends_self (image_of_bytes cells old.now.sure)))
     (omega arith) (omega arith)
 
 -- and what it changes, where all of it was put
 changes_left : (cells at : ℕ) (value : List ℕ) (told told' : Option Told) → at < cells
     → ((t : Told) → told ≡ Some t → 16 * cells ≤ length t.now.bytes) → IsCell value
-    → IfSome told (λ t. replicate 16 0 ≡ cell_bytes t.now.bytes at) → Puts (16 * at) value told told'
+    → IfSome told (λ t. replicate 16 0 ≡ cell_bytes t.now.bytes at) → PutsBytes (16 * at) value told told'
     → ChangesOnly at value (now_in cells told).image (now_in cells told').image
 changes_left cells at value None None inside within is blank step = λ cell. inl refl
 changes_left cells at value None (Some new) inside within is blank step = absurd step
 changes_left cells at value (Some old) None inside within is blank step = absurd step
 changes_left cells at value (Some old) (Some new) inside within is blank step =
     let room : 16 * at + 16 ≤ length old.now.bytes = omega (arith, within old refl, inside) in
-    let free : image_of cells old.now.bytes at ≡ None = within_image cells at old.now.bytes inside
+    let free : image_of_bytes cells old.now.bytes at ≡ None = within_image cells at old.now.bytes inside
     ∙ ap cell_in (sym blank) in
-    let bytes : new.now.bytes ≡ patched (16 * at) value old.now.bytes = ap (λ (h : Held). h.bytes) step.now in
-    subst (λ b. ChangesOnly at value (image_of cells old.now.bytes) (image_of cells b)) (sym bytes)
+    let bytes : new.now.bytes ≡ patched (16 * at) value old.now.bytes = ap (λ (h : HeldBytes). h.bytes) step.now in
+    subst (λ b. ChangesOnly at value (image_of_bytes cells old.now.bytes) (image_of_bytes cells b)) (sym bytes)
     (put_changes cells at value old.now.bytes inside room is free)
 
 -- a row that failed, so far
@@ -156,7 +156,7 @@ row_left_next cells reads faults parts parts' at place values bytes first told t
           (now_in cells told).image (now_in cells told').image left.called.image called.image (left.only still)
           (changes_left cells (at + place) (part_at (16 * place) bytes) told told' (omega (arith, inside, less)) here.room
           (row.cell place less) (here.blank place (omega arith) less)
-          (subst (λ p. Puts (16 * (at + place)) p told told') all put.2)))
+          (subst (λ p. PutsBytes (16 * (at + place)) p told told') all put.2)))
           (λ rose. absurd (rose_or_still parts parts' rose still))
           put.3;
     })

@@ -4,20 +4,20 @@ use Rattle.std.proofs.Common.{refl, ◌∙◌, ap, sym, subst, arith, inl, inr, 
 use Rattle.std.proofs.lemmas.List.{length-take, length-drop}
 use Rattle.worm_device.specs.Counts.{Rose}
 use Rattle.worm_device.specs.declared.device.Failed.{Failed}
-use Rattle.host_files.specs.File.{Told, Puts, PutsPlaces, LeavesPlaces, WritesAt, WritesPlaces, part_at}
-use Rattle.host_files.specs.Memory.{FileMemory, HasPut, file_of, told_of, with_call, with_change, with_fault}
+use Rattle.host_files.specs.File.{Told, PutsBytes, PutsPlaces, LeavesPlaces, WritesAt, WritesPlaces, part_at}
+use Rattle.host_files.specs.Memory.{FileMemory, HasPut, file_of, told_of, file_with_call, file_with_change, file_with_fault}
 use Rattle.host_files.specs.declared.change.FileChange.TheVariants.{Put}
 use Rattle.host_files.proofs.Changes.{becomes}
 
 -- one place more is put
 puts_more : (n place cell : ℕ) (bytes : List ℕ) (old mid new : Option Told) → PutsPlaces n place cell bytes old mid
-    → Puts (16 * (cell + (place + n))) (part_at (16 * (place + n)) bytes) mid new
+    → PutsBytes (16 * (cell + (place + n))) (part_at (16 * (place + n)) bytes) mid new
     → PutsPlaces (suc n) place cell bytes old new
 puts_more zero place cell bytes old mid new puts step =
     let here : place + 0 ≡ place = omega arith in (
       new,
-      subst (λ (t : Option Told). Puts (16 * (cell + place)) (part_at (16 * place) bytes) t new) puts
-          (subst (λ (k : ℕ). Puts (16 * (cell + k)) (part_at (16 * k) bytes) mid new) here step),
+      subst (λ (t : Option Told). PutsBytes (16 * (cell + place)) (part_at (16 * place) bytes) t new) puts
+          (subst (λ (k : ℕ). PutsBytes (16 * (cell + k)) (part_at (16 * k) bytes) mid new) here step),
       refl,
     )
 puts_more (suc n) place cell bytes old mid new puts step =
@@ -25,7 +25,7 @@ puts_more (suc n) place cell bytes old mid new puts step =
       puts.0,
       puts.1,
       puts_more n (place + 1) cell bytes puts.0 mid new puts.2
-          (subst (λ (k : ℕ). Puts (16 * (cell + k)) (part_at (16 * k) bytes) mid new) here step),
+          (subst (λ (k : ℕ). PutsBytes (16 * (cell + k)) (part_at (16 * k) bytes) mid new) here step),
     )
 
 -- nothing is left of places
@@ -66,20 +66,20 @@ left_then (suc n) m (suc total) place cell bytes Torn old mid new sum sixteen pu
 -- one more
 pub put_more : (n cell from : ℕ) (bytes piece : List ℕ) (old mid : FileMemory) → from ≡ 16 * (cell + n)
     → piece ≡ part_at (16 * n) bytes → HasPut n cell bytes old mid
-    → HasPut (n + 1) cell bytes old (with_change mid (Put from piece))
+    → HasPut (n + 1) cell bytes old (file_with_change mid (Put from piece))
 put_more n cell from bytes piece old mid at is first =
     let next : suc n ≡ n + 1 = omega arith in
     let begin : 0 + n ≡ n = omega arith in
-    let new : FileMemory = with_change mid (Put from piece) in
-    let step : Puts from piece (Some (told_of mid)) (Some (told_of new)) = becomes mid (Put from piece) in
+    let new : FileMemory = file_with_change mid (Put from piece) in
+    let step : PutsBytes from piece (Some (told_of mid)) (Some (told_of new)) = becomes mid (Put from piece) in
     record {
       first = first.first;
       puts = subst (λ (k : ℕ). PutsPlaces k 0 cell bytes (Some (told_of old)) (Some (told_of new))) next
           (puts_more n 0 cell bytes (Some (told_of old)) (Some (told_of mid)) (Some (told_of new)) first.puts
-          (subst (λ (k : ℕ). Puts (16 * (cell + k)) (part_at (16 * k) bytes) (Some (told_of mid)) (Some (told_of new)))
+          (subst (λ (k : ℕ). PutsBytes (16 * (cell + k)) (part_at (16 * k) bytes) (Some (told_of mid)) (Some (told_of new)))
           (sym begin)
-          (subst (λ (k : ℕ). Puts k (part_at (16 * n) bytes) (Some (told_of mid)) (Some (told_of new))) at
-          (subst (λ (p : List ℕ). Puts from p (Some (told_of mid)) (Some (told_of new))) is step))));
+          (subst (λ (k : ℕ). PutsBytes k (part_at (16 * n) bytes) (Some (told_of mid)) (Some (told_of new))) at
+          (subst (λ (p : List ℕ). PutsBytes from p (Some (told_of mid)) (Some (told_of new))) is step))));
       faults = first.faults;
       parts = first.parts;
     }
@@ -90,7 +90,7 @@ part_long k bytes inside = omega (arith, length-take 16 (drop (16 * k) bytes), l
 
 -- no place was put
 pub places_unput : (from : ℕ) (bytes : List ℕ) (failed : Failed) (old : FileMemory) → old.faults < 2 ^ 64
-    → WritesPlaces from bytes (file_of old) (file_of (with_fault (with_call old))) (Err failed)
+    → WritesPlaces from bytes (file_of old) (file_of (file_with_fault (file_with_call old))) (Err failed)
 places_unput from bytes failed old fits = record {
   size = refl;
   left = left_none (length bytes / 16) 0 (from / 16) bytes (Rose old.parts old.parts) (Some (told_of old));
@@ -103,7 +103,7 @@ places_unput from bytes failed old fits = record {
 pub places_torn : (from count whole place : ℕ) (bytes piece : List ℕ) (failed : Failed) (old mid new : FileMemory)
     → count ≡ length bytes / 16 → whole < count → from % 16 ≡ 0 → place ≡ from + 16 * whole
     → piece ≡ part_at (16 * whole) bytes
-    → HasPut whole (from / 16) bytes (with_call old) mid
+    → HasPut whole (from / 16) bytes (file_with_call old) mid
     → WritesAt place piece (file_of mid) (file_of new) (Err failed)
     → WritesPlaces from bytes (file_of old) (file_of new) (Err failed)
 places_torn from count whole place bytes piece failed old mid new all less aligned at is puts left =
@@ -125,7 +125,7 @@ places_torn from count whole place bytes piece failed old mid new all less align
                 (λ put. inr (
                   put.0,
                   put.1,
-                  subst (λ (k : ℕ). Puts k put.0 (Some (told_of mid)) (Some (told_of new))) here put.2,
+                  subst (λ (k : ℕ). PutsBytes k put.0 (Some (told_of mid)) (Some (told_of new))) here put.2,
                   ⊎_elim
                       (λ (same : put.0 ≡ piece). inl (same ∙ is))
                       (λ (rose : Rose mid.parts new.parts). inr (subst (λ (k : ℕ). Rose k new.parts) puts.parts rose))

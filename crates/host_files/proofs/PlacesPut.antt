@@ -9,7 +9,7 @@ use Rattle.worm_device.specs.declared.device.Written.TheVariants.{Done}
 use Rattle.worm_device.proofs.Rows.{HasWritten, row_more, row_none, row_whole}
 use Rattle.host_files.specs.Cells.{cell_bytes}
 use Rattle.host_files.specs.Device.{device_at}
-use Rattle.host_files.specs.File.{Held, Told, Puts, PutsPlaces, part_at, patched}
+use Rattle.host_files.specs.File.{HeldBytes, Told, PutsBytes, PutsPlaces, part_at, patched}
 use Rattle.host_files.specs.Rows.{AreRow}
 use Rattle.host_files.proofs.PageCells.{put_others}
 use Rattle.host_files.proofs.Writing.{writes_left}
@@ -21,7 +21,7 @@ pub record AreFree (cells at place count : ℕ) (told : Option Told) : Type 0 wh
 
 -- one is put, and those behind it are free
 pub free_next : (cells at place count : ℕ) (put : List ℕ) (told told' : Option Told) → length put ≡ 16 → at + place < cells
-    → Puts (16 * (at + place)) put told told' → AreFree cells at place count told
+    → PutsBytes (16 * (at + place)) put told told' → AreFree cells at place count told
     → AreFree cells at (place + 1) count told'
 free_next cells at place count put None None sixteen inside step free = record {
   room = free.room;
@@ -31,7 +31,7 @@ free_next cells at place count put None (Some new) sixteen inside step free = ab
 free_next cells at place count put (Some old) None sixteen inside step free = absurd step
 free_next cells at place count put (Some old) (Some new) sixteen inside step free =
     let room : 16 * (at + place) + 16 ≤ length old.now.bytes = omega (arith, free.room old refl, inside) in
-    let bytes : new.now.bytes ≡ patched (16 * (at + place)) put old.now.bytes = ap (λ (h : Held). h.bytes) step.now in
+    let bytes : new.now.bytes ≡ patched (16 * (at + place)) put old.now.bytes = ap (λ (h : HeldBytes). h.bytes) step.now in
     record {
       room = λ t is.
           let same : length (patched (16 * (at + place)) put old.now.bytes) ≡ length old.now.bytes = omega (
@@ -57,7 +57,7 @@ free_next cells at place count put (Some old) (Some new) sixteen inside step fre
 pub along : (P : ℕ → Option Told → Type 0) (cells at total : ℕ) (bytes : List ℕ) → at + total ≤ cells
     → ((k : ℕ) → k < total → length (part_at (16 * k) bytes) ≡ 16)
     → ((place : ℕ) (old new : Option Told) → place < total → AreFree cells at place total old
-    → Puts (16 * (at + place)) (part_at (16 * place) bytes) old new → P place old → P (place + 1) new)
+    → PutsBytes (16 * (at + place)) (part_at (16 * place) bytes) old new → P place old → P (place + 1) new)
     → (count place : ℕ) (old new : Option Told) → place + count ≡ total → AreFree cells at place total old
     → PutsPlaces count place at bytes old new → P place old → P total new
 along P cells at total bytes inside sixteen next zero place old new sum free puts holds =

@@ -8,9 +8,9 @@ use Rattle.worm_device.specs.Counts.{next_count, Rose}
 use Rattle.worm_device.specs.ReadRows.{AreFoundBetween, IsFoundBetween, ReadsRow}
 use Rattle.worm_device.specs.declared.device.Failed.{Failed}
 use Rattle.worm_device.proofs.Elapsing.{leaves_all}
-use Rattle.host_files.specs.Cells.{AreCellsIn, cell_in, cell_bytes, image_of}
+use Rattle.host_files.specs.Cells.{AreCellsIn, cell_in, cell_bytes, image_of_bytes}
 use Rattle.host_files.specs.Device.{device_at, device_over, now_in}
-use Rattle.host_files.specs.File.{FileState, Told, Asks}
+use Rattle.host_files.specs.File.{FileState, Told, AsksFile}
 use Rattle.host_files.specs.Pages.{AreToldOf, PagesHold, Mirror}
 use Rattle.host_files.specs.declared.pages.Page.{Page}
 use Rattle.host_files.specs.Proper.{within_image}
@@ -52,7 +52,7 @@ reads_at cells reads at faults faults' parts (Some t) (Err failed) fits inside l
 }
 
 pub reads_over : (cells reads at : ℕ) (old new : FileState) (result : Result (Option (List ℕ)) Failed)
-    → reads < 2 ^ 64 → at < cells → Asks old new result
+    → reads < 2 ^ 64 → at < cells → AsksFile old new result
     → IfOk result (λ found. (t : Told) → old.told ≡ Some t → found ≡ cell_in (cell_bytes t.now.bytes at))
     → Reads at (device_over cells reads old) (device_over cells (next_count reads) new) result
 reads_over cells reads at old new result fits inside asks answer =
@@ -102,13 +102,13 @@ row_at cells reads reads' at faults faults' parts room found told result inside 
         (now_in cells told).image) (λ _. ⊤)
     answers None result given tells = absurd (false≢true tells)
     answers (Some t) (Ok done) given tells = λ place held below is.
-        found_is (at + place) held (image_of cells t.now.bytes) (given t refl place held below is
+        found_is (at + place) held (image_of_bytes cells t.now.bytes) (given t refl place held below is
         ∙ sym (within_image cells (at + place) t.now.bytes (omega (arith, inside, below))))
     answers (Some t) (Err failed) given tells = tt
 
 pub row_over : (cells reads reads' at : ℕ) (room found : List (Option (List ℕ))) (old new : FileState)
     (pages : List Page) (result : Result (Unit {0}) Failed) → at + length found ≤ cells → reads ≤ reads'
-    → reads' ≤ reads + length found → length found ≡ length room → Asks old new result
+    → reads' ≤ reads + length found → length found ≡ length room → AsksFile old new result
     → Mirror cells old.told pages → OnOk result (AreToldOf cells at old.told pages found)
     → ReadsRow at room found (device_over cells reads old) (device_over cells reads' new) result
 row_over cells reads reads' at room found old new pages result inside later count size asks mirror answer =

@@ -6,7 +6,7 @@ use Rattle.std.proofs.lemmas.List.{get_or-take, get_or-drop, length-take, length
 use Rattle.std.proofs.lemmas.Option.{slice_get-get_or, get_or_from_slice_get, same_Some}
 use Rattle.std.proofs.lemmas.Slice.{take-put_mid_below, between-put_mid}
 use Rattle.host_files.specs.Cells.{AreCellsIn, cell_in, cell_bytes}
-use Rattle.host_files.specs.File.{Asks, FileState, Told}
+use Rattle.host_files.specs.File.{AsksFile, FileState, Told}
 use Rattle.host_files.specs.Pages.{HoldOn, IsOn, PagesHold}
 use Rattle.host_files.specs.declared.pages.Page.{Page}
 use Rattle.host_files.proofs.PageSets.{got}
@@ -65,7 +65,7 @@ pub record HasShown (count cells at : ℕ) (room found : List (Option (List ℕ)
 -- the cells of one more page were copied
 pub shown_more : (count cells at frame more : ℕ) (room found part : List (Option (List ℕ))) (page : Page)
     (old mid now : FileState) (pages pages' pages'' : List Page)
-    → HasShown count cells at room found old mid pages pages' → Asks mid now (Ok frame)
+    → HasShown count cells at room found old mid pages pages' → AsksFile mid now (Ok frame)
     → HoldOn cells mid.told pages' pages'' → IsOn pages'' frame ((at + count) / 256)
     → slice_get pages'' frame ≡ Some page → at + length room ≤ cells
     → (at + count) % 256 + more ≤ 256 → count + more ≤ length found → length part ≡ more

@@ -8,7 +8,7 @@ use Rattle.worm_device.specs.declared.device.Failed.{Failed}
 use Rattle.worm_device.specs.declared.device.Written.TheVariants.{Done}
 use Rattle.host_files.specs.Cells.{cell_bytes}
 use Rattle.host_files.specs.Device.{device_over, SureStands}
-use Rattle.host_files.specs.File.{FileState, IsFile, Told, Puts, Leaves, ReadsAt, WritesAt, part_at, patched}
+use Rattle.host_files.specs.File.{FileState, IsFile, Told, PutsBytes, LeavesAtWrite, ReadsAt, WritesAt, part_at, patched}
 use Rattle.host_files.specs.Pages.{PagesHold, Mirror}
 use Rattle.host_files.specs.declared.pages.Page.{Page}
 use Rattle.host_files.proofs.Images.{put_same}
@@ -48,20 +48,20 @@ blank {at = at} {into = into} {old = old} s =
 
 -- what was put was put over what was asked for
 step : {cells at : ℕ} {into : List ℕ} {old mid : FileState}
-    (s : Asked cells at into old mid) (put : List ℕ) (new : FileState) → Puts (16 * at) put mid.told new.told
-    → Puts (16 * at) put old.told new.told
-step {at = at} s put new puts = subst (λ t. Puts (16 * at) put t new.told) s.asks.told puts
+    (s : Asked cells at into old mid) (put : List ℕ) (new : FileState) → PutsBytes (16 * at) put mid.told new.told
+    → PutsBytes (16 * at) put old.told new.told
+step {at = at} s put new puts = subst (λ t. PutsBytes (16 * at) put t new.told) s.asks.told puts
 
 -- what is sure stands, where sixteen bytes were put
 pub stands_put : {cells at : ℕ} {into : List ℕ} {old mid : FileState} → Asked cells at into old mid
-    → (put : List ℕ) (new : FileState) → length put ≡ 16 → Puts (16 * at) put mid.told new.told
+    → (put : List ℕ) (new : FileState) → length put ≡ 16 → PutsBytes (16 * at) put mid.told new.told
     → SureStands cells old.told → SureStands cells new.told
 stands_put {cells} {at} {old = old} s put new sixteen puts stands =
     stands_left cells at put old.told new.told stands s.inside (within s) sixteen (blank s) (step s put new puts)
 
 -- and the pages hold what stands, where they were told
 pub mirror_put : {cells at : ℕ} {into : List ℕ} {old mid : FileState} → Asked cells at into old mid
-    → (put : List ℕ) (new : FileState) (pages pages' : List Page) → Puts (16 * at) put mid.told new.told
+    → (put : List ℕ) (new : FileState) (pages pages' : List Page) → PutsBytes (16 * at) put mid.told new.told
     → Mirror cells old.told pages
     → ((bytes : List ℕ) → 16 * at + 16 ≤ length bytes → PagesHold cells bytes pages → PagesHold cells
     (patched (16 * at) put bytes) pages')
@@ -71,7 +71,7 @@ mirror_put {cells} {at} {old = old} s put new pages pages' puts mirror holds =
 
 -- the same after a write that failed
 pub stands_failed : {cells at : ℕ} {into : List ℕ} {old mid : FileState} → Asked cells at into old mid
-    → (piece : List ℕ) (new : FileState) → Leaves (16 * at) piece mid new → SureStands cells old.told
+    → (piece : List ℕ) (new : FileState) → LeavesAtWrite (16 * at) piece mid new → SureStands cells old.told
     → SureStands cells new.told
 stands_failed {cells} s piece new leaves stands =
     ⊎_elim
@@ -80,7 +80,7 @@ stands_failed {cells} s piece new leaves stands =
     leaves
 
 pub mirror_failed : {cells at : ℕ} {into : List ℕ} {old mid : FileState} → Asked cells at into old mid
-    → (piece : List ℕ) (new : FileState) (pages pages' : List Page) → Leaves (16 * at) piece mid new
+    → (piece : List ℕ) (new : FileState) (pages pages' : List Page) → LeavesAtWrite (16 * at) piece mid new
     → Mirror cells old.told pages → ((bytes : List ℕ) → PagesHold cells bytes pages → PagesHold cells bytes pages')
     → ((put bytes : List ℕ) → 16 * at + 16 ≤ length bytes → length put ≡ 16 → PagesHold cells bytes pages
     → PagesHold cells (patched (16 * at) put bytes) pages')

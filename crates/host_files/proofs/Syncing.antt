@@ -8,9 +8,9 @@ use Rattle.worm_device.specs.Counts.{Rose}
 use Rattle.worm_device.specs.declared.device.Failed.{Failed}
 use Rattle.worm_device.proofs.Images.{extends_self, extends_then}
 use Rattle.worm_device.proofs.Elapsing.{leaves_all}
-use Rattle.host_files.specs.Cells.{image_of}
-use Rattle.host_files.specs.Device.{instant_of, device_at, device_over, SureStands}
-use Rattle.host_files.specs.File.{FileState, Held, Told, MakesSure, Flushes}
+use Rattle.host_files.specs.Cells.{image_of_bytes}
+use Rattle.host_files.specs.Device.{held_instant, device_at, device_over, SureStands}
+use Rattle.host_files.specs.File.{FileState, HeldBytes, Told, MakesSure, Flushes}
 use Rattle.host_files.proofs.Time.{called_same, called_step, Left}
 
 -- a sync
@@ -40,23 +40,23 @@ syncs_at cells reads faults faults' parts None None (Ok done) stands later cause
 syncs_at cells reads faults faults' parts None (Some new) (Ok done) stands later cause step = absurd step
 syncs_at cells reads faults faults' parts (Some old) None (Ok done) stands later cause step = absurd step
 syncs_at cells reads faults faults' parts (Some old) (Some new) (Ok done) stands later cause step =
-    let bytes : new.now.bytes ≡ old.now.bytes = ap (λ (h : Held). h.bytes) step.now in
-    let sure : new.now.sure ≡ old.now.bytes = ap (λ (h : Held). h.sure) step.now in
-    let now : Extends (image_of cells old.now.bytes) (image_of cells new.now.sure) =
-    subst (λ b. Extends (image_of cells old.now.bytes) (image_of cells b)) (sym sure)
-    (extends_self (image_of cells old.now.bytes)) in record {
+    let bytes : new.now.bytes ≡ old.now.bytes = ap (λ (h : HeldBytes). h.bytes) step.now in
+    let sure : new.now.sure ≡ old.now.bytes = ap (λ (h : HeldBytes). h.sure) step.now in
+    let now : Extends (image_of_bytes cells old.now.bytes) (image_of_bytes cells new.now.sure) =
+    subst (λ b. Extends (image_of_bytes cells old.now.bytes) (image_of_bytes cells b)) (sym sure)
+    (extends_self (image_of_bytes cells old.now.bytes)) in record {
       called = called_step cells reads faults faults' parts parts old new _ step
-          (subst (λ b. Extends (image_of cells old.now.bytes) (image_of cells b)) (sym bytes)
-          (extends_self (image_of cells old.now.bytes)))
+          (subst (λ b. Extends (image_of_bytes cells old.now.bytes) (image_of_bytes cells b)) (sym bytes)
+          (extends_self (image_of_bytes cells old.now.bytes)))
           (extends_then stands.now now) later (omega arith);
       leaves = leaves_all _ _ (λ image between. inr (
         old.moment,
         omega arith,
         omega (arith, step.later),
-        subst (λ (h : Held). Left image (instant_of cells h)) (sym step.last)
-            (subst (λ b. Between (image_of cells old.now.sure) (image_of cells b) image) bytes between),
+        subst (λ (h : HeldBytes). Left image (held_instant cells h)) (sym step.last)
+            (subst (λ b. Between (image_of_bytes cells old.now.sure) (image_of_bytes cells b) image) bytes between),
       ));
-      only = λ still cell. ap (λ b. image_of cells b cell) bytes;
+      only = λ still cell. ap (λ b. image_of_bytes cells b cell) bytes;
       answer = λ tells. now;
       cause = cause;
       count = refl;

@@ -7,9 +7,9 @@ use Rattle.worm_device.specs.Calls.{Elapses, Called}
 use Rattle.worm_device.specs.State.{Instant}
 use Rattle.worm_device.proofs.Images.{extends_self, between_wider}
 use Rattle.worm_device.proofs.Elapsing.{elapsed_since, remembered_since}
-use Rattle.host_files.specs.Cells.{image_of}
-use Rattle.host_files.specs.Device.{instant_of, now_in, device_at}
-use Rattle.host_files.specs.File.{Held, Told, Becomes}
+use Rattle.host_files.specs.Cells.{image_of_bytes}
+use Rattle.host_files.specs.Device.{held_instant, now_in, device_at}
+use Rattle.host_files.specs.File.{HeldBytes, Told, Becomes}
 
 -- What a crash could leave is read off what is told alone.
 elapses_same : (cells reads reads' faults faults' parts parts' : ℕ) (told : Option Told)
@@ -49,9 +49,9 @@ abbrev pub Left : Image → Instant → Type 0
 Left image now = Between now.sure now.image image
 
 -- the file has become another, in which what stood still stands: time has gone on
-elapses_step : (cells reads faults faults' parts parts' : ℕ) (old new : Told) (held : Held) → Becomes old new held
-    → Extends (image_of cells old.now.bytes) (image_of cells new.now.bytes)
-    → Extends (image_of cells old.now.sure) (image_of cells new.now.sure)
+elapses_step : (cells reads faults faults' parts parts' : ℕ) (old new : Told) (held : HeldBytes) → Becomes old new held
+    → Extends (image_of_bytes cells old.now.bytes) (image_of_bytes cells new.now.bytes)
+    → Extends (image_of_bytes cells old.now.sure) (image_of_bytes cells new.now.sure)
     → Elapses (device_at cells reads faults parts (Some old)) (device_at cells reads faults' parts' (Some new))
 elapses_step cells reads faults faults' parts parts' old new held step image sure = record {
   later = omega (arith, step.later);
@@ -63,37 +63,37 @@ elapses_step cells reads faults faults' parts parts' old new held step image sur
         old.moment,
         le,
         omega (arith, step.later),
-        subst (λ (h : Held). Left crash (instant_of cells h))
+        subst (λ (h : HeldBytes). Left crash (held_instant cells h))
             (sym step.last) now,
       ))
       (λ before. inr (
         before.0,
         before.1,
         omega (arith, step.later, before.2),
-        subst (λ (h : Held). Left crash (instant_of cells h)) (sym (step.past before.0 before.2)) before.3,
+        subst (λ (h : HeldBytes). Left crash (held_instant cells h)) (sym (step.past before.0 before.2)) before.3,
       ))
       left;
   adds = λ since crash le left.
       ⊎_elim
-      (λ now. inr (between_wider sure (extends_self (image_of cells new.now.bytes)) now))
+      (λ now. inr (between_wider sure (extends_self (image_of_bytes cells new.now.bytes)) now))
       (λ before.
       ⊎_elim
       (λ earlier. inl (inr (
         before.0,
         before.1,
         earlier,
-        subst (λ (h : Held). Left crash (instant_of cells h)) (step.past before.0 earlier) before.3,
+        subst (λ (h : HeldBytes). Left crash (held_instant cells h)) (step.past before.0 earlier) before.3,
       )))
       (λ last. inl (inl (
       let at : before.0 ≡ old.moment = omega (arith, step.later, before.2, last) in
-      subst (λ (h : Held). Left crash (instant_of cells h)) (ap new.past at ∙ step.last) before.3)))
+      subst (λ (h : HeldBytes). Left crash (held_instant cells h)) (ap new.past at ∙ step.last) before.3)))
       (cases_lt before.0 old.moment))
       left;
 }
 
-pub called_step : (cells reads faults faults' parts parts' : ℕ) (old new : Told) (held : Held)
-    → Becomes old new held → Extends (image_of cells old.now.bytes) (image_of cells new.now.bytes)
-    → Extends (image_of cells old.now.sure) (image_of cells new.now.sure) → faults ≤ faults' → parts ≤ parts'
+pub called_step : (cells reads faults faults' parts parts' : ℕ) (old new : Told) (held : HeldBytes)
+    → Becomes old new held → Extends (image_of_bytes cells old.now.bytes) (image_of_bytes cells new.now.bytes)
+    → Extends (image_of_bytes cells old.now.sure) (image_of_bytes cells new.now.sure) → faults ≤ faults' → parts ≤ parts'
     → Called (device_at cells reads faults parts (Some old)) (device_at cells reads faults' parts' (Some new))
 called_step cells reads faults faults' parts parts' old new held step image sure more_faults more_parts = record {
   cells = refl;
@@ -107,8 +107,8 @@ called_step cells reads faults faults' parts parts' old new held step image sure
   crashes = elapsed_since (elapses_step cells reads faults faults' parts parts' old new held step image sure);
   remembers = remembered_since (record {
     later = omega (arith, step.later);
-    past = λ m before. ap (instant_of cells) (step.past m before);
-    last = λ later. ap (instant_of cells) step.last;
+    past = λ m before. ap (held_instant cells) (step.past m before);
+    last = λ later. ap (held_instant cells) step.last;
     still = λ same. absurd (omega (arith, step.later, same));
   });
 }

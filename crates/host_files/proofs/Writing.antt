@@ -12,9 +12,9 @@ use Rattle.worm_device.specs.declared.device.Written.TheVariants.{Done, Taken}
 use Rattle.worm_device.proofs.Images.{extends_self}
 use Rattle.worm_device.proofs.Counting.{rose_or_still}
 use Rattle.worm_device.proofs.Elapsing.{leaves_all}
-use Rattle.host_files.specs.Cells.{cell_in, cell_bytes, image_of}
+use Rattle.host_files.specs.Cells.{cell_in, cell_bytes, image_of_bytes}
 use Rattle.host_files.specs.Device.{device_at, device_over}
-use Rattle.host_files.specs.File.{FileState, Held, Told, Puts, ReadsAt, part_at, patched}
+use Rattle.host_files.specs.File.{FileState, HeldBytes, Told, PutsBytes, ReadsAt, part_at, patched}
 use Rattle.host_files.specs.Proper.{within_image}
 use Rattle.host_files.proofs.Images.{put_extends, put_changes, here, written_in}
 use Rattle.host_files.proofs.Time.{called_same, called_step}
@@ -93,7 +93,7 @@ done_taken found same = cc
 done_answers :
     (cells reads at faults faults' parts parts' : ℕ) (value put : List ℕ) (old new : Told)
     (result : Result Written Failed)
-    → at < cells → 16 * at + 16 ≤ length old.now.bytes → IsCell value → image_of cells old.now.bytes at ≡ None
+    → at < cells → 16 * at + 16 ≤ length old.now.bytes → IsCell value → image_of_bytes cells old.now.bytes at ≡ None
     → new.now.bytes ≡ patched (16 * at) put old.now.bytes
     → MatchResult result (λ done. (done ≡ Done) × (put ≡ value)) (λ _. ⊤)
     → MatchResult result (WriteAnswers at value (device_at cells reads faults parts (Some old))
@@ -101,7 +101,7 @@ done_answers :
 done_answers cells reads at faults faults' parts parts' value put old new (Ok Done) inside room is free bytes
     answer = (
       free,
-      ap (λ b. image_of cells b at) (bytes ∙ ap (λ p. patched (16 * at) p old.now.bytes) answer.1)
+      ap (λ b. image_of_bytes cells b at) (bytes ∙ ap (λ p. patched (16 * at) p old.now.bytes) answer.1)
           ∙ here cells at value old.now.bytes inside room is.sixteen
           ∙ written_in value is.sixteen is.written,
     )
@@ -115,7 +115,7 @@ pub writes_left :
     (cells reads at faults faults' parts parts' : ℕ) (value put : List ℕ) (told told' : Option Told)
     (result : Result Written Failed)
     → at < cells → ((t : Told) → told ≡ Some t → 16 * cells ≤ length t.now.bytes) → length put ≡ 16 → IsCell value
-    → IfSome told (λ t. replicate 16 0 ≡ cell_bytes t.now.bytes at) → Puts (16 * at) put told told'
+    → IfSome told (λ t. replicate 16 0 ≡ cell_bytes t.now.bytes at) → PutsBytes (16 * at) put told told'
     → faults ≤ faults' → parts ≤ parts' → MatchResult result (λ _. faults' ≡ faults) (λ _. Rose faults faults')
     → (put ≡ value) ⊎ Rose parts parts' → MatchResult result (λ done. (done ≡ Done) × (put ≡ value)) (λ _. ⊤)
     → Writes at value (device_at cells reads faults parts told) (device_at cells reads faults' parts' told') result
@@ -135,24 +135,24 @@ writes_left cells reads at faults faults' parts parts' value put (Some old) None
 writes_left cells reads at faults faults' parts parts' value put (Some old) (Some new) result inside within sixteen
     is blank step later more cause left answer =
     let room : 16 * at + 16 ≤ length old.now.bytes = omega (arith, within old refl, inside) in
-    let free : image_of cells old.now.bytes at ≡ None = within_image cells at old.now.bytes inside
+    let free : image_of_bytes cells old.now.bytes at ≡ None = within_image cells at old.now.bytes inside
     ∙ ap cell_in (sym blank) in
-    let bytes : new.now.bytes ≡ patched (16 * at) put old.now.bytes = ap (λ (h : Held). h.bytes) step.now in
-    let sure : new.now.sure ≡ old.now.sure = ap (λ (h : Held). h.sure) step.now in record {
+    let bytes : new.now.bytes ≡ patched (16 * at) put old.now.bytes = ap (λ (h : HeldBytes). h.bytes) step.now in
+    let sure : new.now.sure ≡ old.now.sure = ap (λ (h : HeldBytes). h.sure) step.now in record {
       called = called_step cells reads faults faults' parts parts' old new _ step
-          (subst (λ b. Extends (image_of cells old.now.bytes) (image_of cells b)) (sym bytes)
+          (subst (λ b. Extends (image_of_bytes cells old.now.bytes) (image_of_bytes cells b)) (sym bytes)
           (put_extends cells at put old.now.bytes room sixteen free))
-          (subst (λ b. Extends (image_of cells old.now.sure) (image_of cells b)) (sym sure)
-          (extends_self (image_of cells old.now.sure)))
+          (subst (λ b. Extends (image_of_bytes cells old.now.sure) (image_of_bytes cells b)) (sym sure)
+          (extends_self (image_of_bytes cells old.now.sure)))
           later more;
       leaves = leaves_all _ _ (λ image between.
-          inl (subst (λ b. Between (image_of cells b) (image_of cells new.now.bytes) image) (sym sure) between));
+          inl (subst (λ b. Between (image_of_bytes cells b) (image_of_bytes cells new.now.bytes) image) (sym sure) between));
       only = λ still.
-          subst (λ b. ChangesOnly at value (image_of cells old.now.bytes) (image_of cells b)) (sym bytes)
+          subst (λ b. ChangesOnly at value (image_of_bytes cells old.now.bytes) (image_of_bytes cells b)) (sym bytes)
           (⊎_elim
           (λ same.
-          subst (λ p. ChangesOnly at value (image_of cells old.now.bytes)
-          (image_of cells (patched (16 * at) p old.now.bytes))) (sym same)
+          subst (λ p. ChangesOnly at value (image_of_bytes cells old.now.bytes)
+          (image_of_bytes cells (patched (16 * at) p old.now.bytes))) (sym same)
           (put_changes cells at value old.now.bytes inside room is free))
           (λ rose. absurd (rose_or_still parts parts' rose still))
           left);

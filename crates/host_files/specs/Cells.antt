@@ -17,8 +17,8 @@ abbrev pub cell_bytes : List ℕ → ℕ → List ℕ
 cell_bytes bytes cell = part_at (16 * cell) bytes
 
 -- what stands in the first so many cells of a file of these bytes
-abbrev pub image_of : ℕ → List ℕ → Image
-image_of cells bytes cell = if nat_lt cell cells then cell_in (cell_bytes bytes cell) else None
+abbrev pub image_of_bytes : ℕ → List ℕ → Image
+image_of_bytes cells bytes cell = if nat_lt cell cells then cell_in (cell_bytes bytes cell) else None
 
 -- each of the first so many that were found is what stands in a cell of these bytes, from this one on
 abbrev pub AreCellsIn : ℕ → ℕ → List (Option (List ℕ)) → List ℕ → Type 0

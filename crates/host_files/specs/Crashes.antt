@@ -1,12 +1,12 @@
 -- What a crash leaves of a file, and what that is as cells.
 use Rattle.std.specs.Prelude.{◌≡◌, ◌<◌, ◌≤◌, ◌*◌, ◌⊎◌, ℕ, List, Option, Some}
 use Rattle.worm_device.specs.State.{DeviceState, LeftSince}
-use Rattle.host_files.specs.Cells.{image_of}
-use Rattle.host_files.specs.File.{Held, Told, part_at}
+use Rattle.host_files.specs.Cells.{image_of_bytes}
+use Rattle.host_files.specs.File.{HeldBytes, Told, part_at}
 
 -- A crash leaves in each place what was sure there, or what stood there: sixteen bytes are written whole or not at
 -- all.
-abbrev pub CrashLeaves : Held → List ℕ → Type 0
+abbrev pub CrashLeaves : HeldBytes → List ℕ → Type 0
 CrashLeaves held bytes =
     (place : ℕ)
     → (part_at (16 * place) bytes ≡ part_at (16 * place) held.sure)
@@ -22,4 +22,4 @@ CouldLeave told since bytes =
 abbrev pub CrashesAreSeen : DeviceState → Option Told → Type 0
 CrashesAreSeen device told =
     (t : Told) (since : ℕ) (bytes : List ℕ) → told ≡ Some t → CouldLeave t since bytes
-    → LeftSince device since (image_of device.cells bytes)
+    → LeftSince device since (image_of_bytes device.cells bytes)

@@ -2,12 +2,12 @@
 use Rattle.std.specs.Prelude.{◌<◌, ℕ, [], Option, Some, None, is_some}
 use Rattle.cell_types.specs.Image.{Extends}
 use Rattle.worm_device.specs.State.{DeviceState, Instant}
-use Rattle.host_files.specs.File.{FileState, Held, Told}
-use Rattle.host_files.specs.Cells.{image_of}
+use Rattle.host_files.specs.File.{FileState, HeldBytes, Told}
+use Rattle.host_files.specs.Cells.{image_of_bytes}
 
 -- what is held, as cells
-abbrev pub instant_of : ℕ → Held → Instant
-instant_of cells held = record { image = image_of cells held.bytes; sure = image_of cells held.sure }
+abbrev pub held_instant : ℕ → HeldBytes → Instant
+held_instant cells held = record { image = image_of_bytes cells held.bytes; sure = image_of_bytes cells held.sure }
 
 -- nothing stands in any cell
 abbrev pub blank : Instant
@@ -16,12 +16,12 @@ blank = record { image = λ cell. None; sure = λ cell. None }
 -- what stands now, where it is told
 abbrev pub now_in : ℕ → Option Told → Instant
 now_in cells None = blank
-now_in cells (Some told) = instant_of cells told.now
+now_in cells (Some told) = held_instant cells told.now
 
 -- what stood at each moment before the present one
 abbrev pub past_in : ℕ → Option Told → ℕ → Instant
 past_in cells None moment = blank
-past_in cells (Some told) moment = instant_of cells (told.past moment)
+past_in cells (Some told) moment = held_instant cells (told.past moment)
 
 -- the present moment
 abbrev pub moment_in : Option Told → ℕ

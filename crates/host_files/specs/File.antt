@@ -6,17 +6,17 @@ use Rattle.worm_device.specs.Counts.{Rose}
 use Rattle.worm_device.specs.declared.device.Failed.{Failed}
 
 -- the bytes of a file, and those that the last sync made sure
-pub record Held : Type 0 where
+pub record HeldBytes : Type 0 where
   pub bytes : List ℕ
   pub sure : List ℕ
 
 -- What a file tells that tells its bytes. Nobody else writes it.
 pub record Told : Type 0 where
-  pub now : Held
+  pub now : HeldBytes
   -- the present moment: how many calls have changed the file
   pub moment : ℕ
   -- what it held at each moment before the present one
-  pub past : ℕ → Held
+  pub past : ℕ → HeldBytes
 
 -- The state of a file.
 pub record FileState : Type 0 where
@@ -47,18 +47,18 @@ abbrev pub patched : ℕ → List ℕ → List ℕ → List ℕ
 patched from piece bytes = take from bytes ++ (piece ++ drop 16 (drop from bytes))
 
 -- the file holds this now, and what it held is the last moment of its past
-pub record Becomes (old new : Told) (held : Held) : Type 0 where
+pub record Becomes (old new : Told) (held : HeldBytes) : Type 0 where
   pub now : new.now ≡ held
   pub later : new.moment ≡ old.moment + 1
   pub last : new.past old.moment ≡ old.now
   pub past : (m : ℕ) → m < old.moment → new.past m ≡ old.past m
 
 -- These sixteen bytes stand at the offset, and all else as before. What is sure stays as it is.
-abbrev pub Puts : ℕ → List ℕ → Option Told → Option Told → Type 0
-Puts from piece None None = ⊤
-Puts from piece None (Some new) = ⊥
-Puts from piece (Some old) None = ⊥
-Puts from piece (Some old) (Some new) =
+abbrev pub PutsBytes : ℕ → List ℕ → Option Told → Option Told → Type 0
+PutsBytes from piece None None = ⊤
+PutsBytes from piece None (Some new) = ⊥
+PutsBytes from piece (Some old) None = ⊥
+PutsBytes from piece (Some old) (Some new) =
     Becomes old new (record { bytes = patched from piece old.now.bytes; sure = old.now.sure })
 
 -- all that stands is sure
@@ -69,25 +69,25 @@ MakesSure (Some old) None = ⊥
 MakesSure (Some old) (Some new) = Becomes old new (record { bytes = old.now.bytes; sure = old.now.bytes })
 
 -- a call fails only where that is counted, and counts nothing where it answers
-abbrev pub HasCause : {X : Type 0} → FileState → FileState → Result X Failed → Type 0
-HasCause old new result = MatchResult result (λ _. new.faults ≡ old.faults) (λ _. Rose old.faults new.faults)
+abbrev pub HasFileCause : {X : Type 0} → FileState → FileState → Result X Failed → Type 0
+HasFileCause old new result = MatchResult result (λ _. new.faults ≡ old.faults) (λ _. Rose old.faults new.faults)
 
 -- Who writes so many bytes has asked for them right before, and they were zeros.
-abbrev pub IsAskedFor : ℕ → ℕ → FileState → Type 0
-IsAskedFor from count file =
+abbrev pub WasReadBlank : ℕ → ℕ → FileState → Type 0
+WasReadBlank from count file =
     IsTrue (is_some file.told) → (file.blank_at ≡ Some from) × (file.blank_size ≡ count)
 
 -- the same of sixteen
 abbrev pub IsAsked : ℕ → FileState → Type 0
-IsAsked from file = IsAskedFor from 16 file
+IsAsked from file = WasReadBlank from 16 file
 
 -- A read, whatever it read, changes nothing.
-pub record Asks {X : Type 0} (old new : FileState) (result : Result X Failed) : Type 0 where
+pub record AsksFile {X : Type 0} (old new : FileState) (result : Result X Failed) : Type 0 where
   pub size : new.size ≡ old.size
   pub told : new.told ≡ old.told
   pub parts : new.parts ≡ old.parts
   pub later : old.faults ≤ new.faults
-  pub cause : HasCause old new result
+  pub cause : HasFileCause old new result
 
 -- Where a read answers, the slice holds the bytes from the offset on.
 pub record ReadsAt (from : ℕ) (into : List ℕ) (old new : FileState) (result : Result Unit Failed) : Type 0 where
@@ -95,31 +95,31 @@ pub record ReadsAt (from : ℕ) (into : List ℕ) (old new : FileState) (result 
   pub told : new.told ≡ old.told
   pub parts : new.parts ≡ old.parts
   pub answer : OnOk result (IfSome old.told (λ t. into ≡ take (length into) (drop from t.now.bytes)))
-  pub blank : OnOk result (into ≡ replicate (length into) 0 → IsAskedFor from (length into) new)
+  pub blank : OnOk result (into ≡ replicate (length into) 0 → WasReadBlank from (length into) new)
   pub later : old.faults ≤ new.faults
-  pub cause : HasCause old new result
+  pub cause : HasFileCause old new result
 
 -- What a write that failed has left: what was there, or the piece, or any sixteen bytes, which counts as a part.
-abbrev pub Leaves : ℕ → List ℕ → FileState → FileState → Type 0
-Leaves from piece old new =
+abbrev pub LeavesAtWrite : ℕ → List ℕ → FileState → FileState → Type 0
+LeavesAtWrite from piece old new =
     (new.told ≡ old.told)
-    ⊎ ((put : List ℕ) × (length put ≡ 16) × Puts from put old.told new.told × ((put ≡ piece) ⊎ Rose old.parts
+    ⊎ ((put : List ℕ) × (length put ≡ 16) × PutsBytes from put old.told new.told × ((put ≡ piece) ⊎ Rose old.parts
     new.parts))
 
 -- A write that answers has put the piece.
 pub record WritesAt (from : ℕ) (piece : List ℕ) (old new : FileState) (result : Result Unit Failed) : Type 0 where
   pub size : new.size ≡ old.size
-  pub left : MatchResult result (λ _. Puts from piece old.told new.told) (λ _. Leaves from piece old new)
+  pub left : MatchResult result (λ _. PutsBytes from piece old.told new.told) (λ _. LeavesAtWrite from piece old new)
   pub parts : MatchResult result (λ _. new.parts ≡ old.parts) (λ _. old.parts ≤ new.parts)
   pub later : old.faults ≤ new.faults
-  pub cause : HasCause old new result
+  pub cause : HasFileCause old new result
 
 -- So many places from this one on were put one after another, each by a change of its own: those of a cell and its
 -- neighbours, and the bytes of place k are the sixteen from 16 * k on.
 abbrev pub PutsPlaces : ℕ → ℕ → ℕ → List ℕ → Option Told → Option Told → Type 0
 PutsPlaces zero place cell bytes old new = new ≡ old
 PutsPlaces (suc count) place cell bytes old new =
-    (mid : Option Told) × Puts (16 * (cell + place)) (part_at (16 * place) bytes) old mid
+    (mid : Option Told) × PutsBytes (16 * (cell + place)) (part_at (16 * place) bytes) old mid
     × PutsPlaces count (place + 1) cell bytes mid new
 
 -- What a write of places that failed has left, place by place: what was there, or the bytes, or any sixteen, which
@@ -129,7 +129,7 @@ LeavesPlaces zero place cell bytes Torn old new = new ≡ old
 LeavesPlaces (suc count) place cell bytes Torn old new =
     (mid : Option Told)
     × ((mid ≡ old)
-    ⊎ ((put : List ℕ) × (length put ≡ 16) × Puts (16 * (cell + place)) put old mid
+    ⊎ ((put : List ℕ) × (length put ≡ 16) × PutsBytes (16 * (cell + place)) put old mid
     × ((put ≡ part_at (16 * place) bytes) ⊎ Torn)))
     × LeavesPlaces count (place + 1) cell bytes Torn mid new
 
@@ -140,7 +140,7 @@ pub record WritesPlaces (from : ℕ) (bytes : List ℕ) (old new : FileState) (r
       (λ _. LeavesPlaces (length bytes / 16) 0 (from / 16) bytes (Rose old.parts new.parts) old.told new.told)
   pub parts : MatchResult result (λ _. new.parts ≡ old.parts) (λ _. old.parts ≤ new.parts)
   pub later : old.faults ≤ new.faults
-  pub cause : HasCause old new result
+  pub cause : HasFileCause old new result
 
 -- A sync that answers has made all sure. One that failed has changed nothing that contracts rest on.
 pub record Flushes (old new : FileState) (result : Result Unit Failed) : Type 0 where
@@ -148,4 +148,4 @@ pub record Flushes (old new : FileState) (result : Result Unit Failed) : Type 0 
   pub parts : new.parts ≡ old.parts
   pub told : MatchResult result (λ _. MakesSure old.told new.told) (λ _. new.told ≡ old.told)
   pub later : old.faults ≤ new.faults
-  pub cause : HasCause old new result
+  pub cause : HasFileCause old new result

@@ -2,22 +2,22 @@
 -- it held at each moment follows.
 use Rattle.std.specs.Prelude.{◌≡◌, ◌+◌, ℕ, List, [], ◌∷◌, ◌++◌, length, take, Option, Some, None}
 use Rattle.worm_device.specs.Counts.{next_count}
-use Rattle.host_files.specs.File.{FileState, Held, Told, PutsPlaces, patched}
+use Rattle.host_files.specs.File.{FileState, HeldBytes, Told, PutsPlaces, patched}
 use Rattle.host_files.specs.declared.change.FileChange.{FileChange}
 use Rattle.host_files.specs.declared.change.FileChange.TheVariants.{Put, Synced}
 
 -- what one change makes of what is held
-abbrev pub after_change : Held → FileChange → Held
-after_change held (Put from piece) = record { bytes = patched from piece held.bytes; sure = held.sure }
-after_change held Synced = record { bytes = held.bytes; sure = held.bytes }
+abbrev pub held_after : HeldBytes → FileChange → HeldBytes
+held_after held (Put from piece) = record { bytes = patched from piece held.bytes; sure = held.sure }
+held_after held Synced = record { bytes = held.bytes; sure = held.bytes }
 
 -- what a row of changes makes of it
-abbrev pub after_changes : Held → List FileChange → Held
-after_changes held [] = held
-after_changes held (change ∷ changes) = after_changes (after_change held change) changes
+abbrev pub held_after_all : HeldBytes → List FileChange → HeldBytes
+held_after_all held [] = held
+held_after_all held (change ∷ changes) = held_after_all (held_after held change) changes
 
 -- these bytes, all of them sure
-abbrev pub all_sure : List ℕ → Held
+abbrev pub all_sure : List ℕ → HeldBytes
 all_sure bytes = record { bytes = bytes; sure = bytes }
 
 -- all that a file in memory tells
@@ -40,8 +40,8 @@ pub record FileMemory : Type 0 where
   pub blank_size : ℕ
 
 -- what it held after these of its changes
-abbrev pub held_at : FileMemory → List FileChange → Held
-held_at m changes = after_changes (all_sure m.first) changes
+abbrev pub held_at : FileMemory → List FileChange → HeldBytes
+held_at m changes = held_after_all (all_sure m.first) changes
 
 -- what it tells; the moment is the number of changes so far
 abbrev pub told_of : FileMemory → Told
@@ -63,16 +63,16 @@ file_of m = record {
 }
 
 -- one more change
-abbrev pub with_change : FileMemory → FileChange → FileMemory
-with_change m change = record m { changes = m.changes ++ change ∷ [] }
+abbrev pub file_with_change : FileMemory → FileChange → FileMemory
+file_with_change m change = record m { changes = m.changes ++ change ∷ [] }
 
 -- one more call, which has found no zeros yet
-abbrev pub with_call : FileMemory → FileMemory
-with_call m = record m { blank_at = None; blank_size = 0; calls = next_count m.calls }
+abbrev pub file_with_call : FileMemory → FileMemory
+file_with_call m = record m { blank_at = None; blank_size = 0; calls = next_count m.calls }
 
 -- one more fault
-abbrev pub with_fault : FileMemory → FileMemory
-with_fault m = record m { faults = next_count m.faults }
+abbrev pub file_with_fault : FileMemory → FileMemory
+file_with_fault m = record m { faults = next_count m.faults }
 
 -- one more write that has left a part
 abbrev pub with_part : FileMemory → FileMemory

@@ -5,8 +5,8 @@ use Rattle.host_files.specs.Memory.{FileMemory, file_of}
 use Rattle.host_files.specs.declared.memory_file.MemoryFile.{MemoryFile}
 
 -- all that a file tells
-abbrev pub memory_of : MemoryFile → FileMemory
-memory_of file = record {
+abbrev pub file_memory : MemoryFile → FileMemory
+file_memory file = record {
   first = file.first.items;
   changes = file.changes.items;
   calls = file.calls;
@@ -18,9 +18,9 @@ memory_of file = record {
 }
 
 -- how many further changes its record has room for
-abbrev pub room_of : MemoryFile → ℕ
-room_of file = vec_capacity file.changes - vec_len file.changes
+abbrev pub file_room : MemoryFile → ℕ
+file_room file = vec_capacity file.changes - vec_len file.changes
 
 -- as a file
-abbrev pub state_of : MemoryFile → FileState
-state_of file = file_of (memory_of file)
+abbrev pub memory_file_state : MemoryFile → FileState
+memory_file_state file = file_of (file_memory file)

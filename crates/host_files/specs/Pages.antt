@@ -20,8 +20,8 @@ abbrev pub IsOn : List Page → ℕ → ℕ → Type 0
 IsOn pages frame number = (page : Page) × (slice_get pages frame ≡ Some page) × (page.number ≡ Some number)
 
 -- no two of them are the same page
-abbrev pub AreApart : List Page → Type 0
-AreApart pages = (number one two : ℕ) → IsOn pages one number → IsOn pages two number → one ≡ two
+abbrev pub ArePagesApart : List Page → Type 0
+ArePagesApart pages = (number one two : ℕ) → IsOn pages one number → IsOn pages two number → one ≡ two
 
 -- no page is held
 abbrev pub HoldNothing : List Page → Type 0

@@ -8,7 +8,7 @@ use Rattle.std.proofs.lemmas.Option.{none-some, same_Some}
 use Rattle.cell_types.specs.Bytes.{AreBytes, IsCell}
 use Rattle.cell_types.specs.declared.geometry.TheConstants.{MAX_CELLS}
 use Rattle.worm_device.specs.State.{IsDevice}
-use Rattle.host_files.specs.Cells.{are_zeros, cell_in, cell_bytes, image_of}
+use Rattle.host_files.specs.Cells.{are_zeros, cell_in, cell_bytes, image_of_bytes}
 use Rattle.host_files.specs.Device.{device_over, now_in, SureStands}
 use Rattle.host_files.specs.Memory.{FileMemory, held_at, file_of}
 use Rattle.host_files.specs.File.{FileState, IsFile, Told, part_at}
@@ -33,12 +33,12 @@ found_in bytes value found =
 
 -- within the device its image is what its bytes are
 pub within_image : (cells cell : ℕ) (bytes : List ℕ) → cell < cells
-    → image_of cells bytes cell ≡ cell_in (cell_bytes bytes cell)
+    → image_of_bytes cells bytes cell ≡ cell_in (cell_bytes bytes cell)
 within_image cells cell bytes inside =
     cond-true (nat_lt cell cells) (cell_in (cell_bytes bytes cell)) None (lt-ltb cell cells inside)
 
 -- and beyond it there is nothing
-pub beyond_image : (cells cell : ℕ) (bytes : List ℕ) (value : List ℕ) → image_of cells bytes cell ≡ Some value
+pub beyond_image : (cells cell : ℕ) (bytes : List ℕ) (value : List ℕ) → image_of_bytes cells bytes cell ≡ Some value
     → (cell < cells) × (cell_in (cell_bytes bytes cell) ≡ Some value)
 beyond_image cells cell bytes value stands =
     ⊎_elim

@@ -1,6 +1,6 @@
 //! What a device needs of a file: bytes that are read and written at places, and made sure.
 ghost use Rattle.std.specs.Prelude.{◌≡◌, ◌≤◌, ◌+◌, ◌%◌, length};
-ghost use Rattle.host_files.specs.File.{FileState, IsFile, IsAsked, IsAskedFor, ReadsAt, WritesAt, WritesPlaces, Flushes};
+ghost use Rattle.host_files.specs.File.{FileState, IsFile, IsAsked, WasReadBlank, ReadsAt, WritesAt, WritesPlaces, Flushes};
 
 use worm_device::Failed;
 
@@ -33,7 +33,7 @@ pub trait HostFile {
         requires inside { from + length bytes.now ≤ (state self.old).size }
         requires place { from % 16 ≡ 0 }
         requires whole { length bytes.now % 16 ≡ 0 }
-        requires asked { IsAskedFor from (length bytes.now) (state self.old) }
+        requires asked { WasReadBlank from (length bytes.now) (state self.old) }
         ensures { WritesPlaces from bytes.now (state self.old) (state self.new) result };
 
     /// Makes all bytes sure.

@@ -1,9 +1,9 @@
 //! The calls of a file in memory. A call fails exactly where it is to, and a write or a sync also where the record has
 //! no room for its change.
 ghost use Rattle.std.specs.Prelude.{◌≡◌, ◌<◌, ◌≤◌, ◌+◌, ◌*◌, ◌/◌, ◌%◌, ◌⊎◌, ◌↔◌, Err, IsErr, length};
-ghost use Rattle.host_files.specs.File.{IsAsked, IsAskedFor, ReadsAt, WritesAt, WritesPlaces, Flushes, part_at};
+ghost use Rattle.host_files.specs.File.{IsAsked, WasReadBlank, ReadsAt, WritesAt, WritesPlaces, Flushes, part_at};
 ghost use Rattle.host_files.specs.Memory.{HasPut, IsToFail};
-ghost use Rattle.host_files.specs.MemoryFile.{memory_of, room_of, state_of};
+ghost use Rattle.host_files.specs.MemoryFile.{file_memory, file_room, memory_file_state};
 ghost use Rattle.host_files.specs.Proper.{is_memory};
 
 use crate::{HostFile, Leaving, MemoryFile};
@@ -34,12 +34,12 @@ fn piece_at(bytes: &[u8], place: usize) -> [u8; 16]
 impl MemoryFile {
     /// Puts the first so many places of these bytes, where the record has room.
     fn put_first(&mut self, bytes: &[u8], from: u64, count: usize)
-        requires inside { from + length bytes.now ≤ (state_of self.old).size }
+        requires inside { from + length bytes.now ≤ (memory_file_state self.old).size }
         requires place { from % 16 ≡ 0 }
         requires most { 16 * count ≤ length bytes.now }
-        requires room { count ≤ room_of self.old }
-        ensures puts { HasPut count (from / 16) bytes.now (memory_of self.old) (memory_of self.new) }
-        ensures room { room_of self.new + count ≡ room_of self.old }
+        requires room { count ≤ file_room self.old }
+        ensures puts { HasPut count (from / 16) bytes.now (file_memory self.old) (file_memory self.new) }
+        ensures room { file_room self.new + count ≡ file_room self.old }
     {
         for place in 0..count {
             self.put(from + 16 * place as u64, piece_at(bytes, place));
@@ -48,9 +48,9 @@ impl MemoryFile {
 
     /// Leaves of sixteen bytes what a write that fails is to leave, and counts the fault.
     fn leave(&mut self, piece: &[u8; 16], from: u64) -> Failed
-        requires inside { from + 16 ≤ (state_of self.old).size }
-        requires room { 1 ≤ room_of self.old }
-        ensures { WritesAt from piece.now (state_of self.old) (state_of self.new) (Err result) }
+        requires inside { from + 16 ≤ (memory_file_state self.old).size }
+        requires room { 1 ≤ file_room self.old }
+        ensures { WritesAt from piece.now (memory_file_state self.old) (memory_file_state self.new) (Err result) }
     {
         match self.leaving() {
             Leaving::Nothing => self.fail(),
@@ -67,16 +67,16 @@ impl MemoryFile {
 }
 
 impl HostFile for MemoryFile {
-    ghost state = { state_of };
+    ghost state = { memory_file_state };
 
     fn size(&self) -> u64 {
         self.count()
     }
 
     fn read_at(&mut self, into: &mut [u8], from: u64) -> Result<(), Failed>
-        requires { from + length into.old ≤ (state_of self.old).size }
-        ensures reads { ReadsAt from into.new (state_of self.old) (state_of self.new) result }
-        ensures fails { IsErr result ↔ IsToFail (memory_of self.old) }
+        requires { from + length into.old ≤ (memory_file_state self.old).size }
+        ensures reads { ReadsAt from into.new (memory_file_state self.old) (memory_file_state self.new) result }
+        ensures fails { IsErr result ↔ IsToFail (file_memory self.old) }
     {
         if self.begin() {
             return Err(self.fail());
@@ -89,11 +89,11 @@ impl HostFile for MemoryFile {
     }
 
     fn write_at(&mut self, piece: &[u8; 16], from: u64) -> Result<(), Failed>
-        requires inside { from + 16 ≤ (state_of self.old).size }
+        requires inside { from + 16 ≤ (memory_file_state self.old).size }
         requires place { from % 16 ≡ 0 }
-        requires asked { IsAsked from (state_of self.old) }
-        ensures writes { WritesAt from piece.now (state_of self.old) (state_of self.new) result }
-        ensures fails { IsErr result ↔ (IsToFail (memory_of self.old) ⊎ (room_of self.old ≡ 0)) }
+        requires asked { IsAsked from (memory_file_state self.old) }
+        ensures writes { WritesAt from piece.now (memory_file_state self.old) (memory_file_state self.new) result }
+        ensures fails { IsErr result ↔ (IsToFail (file_memory self.old) ⊎ (file_room self.old ≡ 0)) }
     {
         let fails = self.begin();
         if self.room() == 0 {
@@ -107,13 +107,13 @@ impl HostFile for MemoryFile {
     }
 
     fn write_places(&mut self, bytes: &[u8], from: u64) -> Result<(), Failed>
-        requires inside { from + length bytes.now ≤ (state_of self.old).size }
+        requires inside { from + length bytes.now ≤ (memory_file_state self.old).size }
         requires place { from % 16 ≡ 0 }
         requires whole { length bytes.now % 16 ≡ 0 }
-        requires asked { IsAskedFor from (length bytes.now) (state_of self.old) }
-        ensures writes { WritesPlaces from bytes.now (state_of self.old) (state_of self.new) result }
+        requires asked { WasReadBlank from (length bytes.now) (memory_file_state self.old) }
+        ensures writes { WritesPlaces from bytes.now (memory_file_state self.old) (memory_file_state self.new) result }
         ensures fails { IsErr result
-            ↔ (IsToFail (memory_of self.old) ⊎ (room_of self.old < length bytes.now / 16)) }
+            ↔ (IsToFail (file_memory self.old) ⊎ (file_room self.old < length bytes.now / 16)) }
     {
         let fails = self.begin();
         let count = bytes.len() / 16;
@@ -133,8 +133,8 @@ impl HostFile for MemoryFile {
     }
 
     fn sync(&mut self) -> Result<(), Failed>
-        ensures flushes { Flushes (state_of self.old) (state_of self.new) result }
-        ensures fails { IsErr result ↔ (IsToFail (memory_of self.old) ⊎ (room_of self.old ≡ 0)) }
+        ensures flushes { Flushes (memory_file_state self.old) (memory_file_state self.new) result }
+        ensures fails { IsErr result ↔ (IsToFail (file_memory self.old) ⊎ (file_room self.old ≡ 0)) }
     {
         let fails = self.begin();
         if fails || self.room() == 0 {
@@ -144,5 +144,5 @@ impl HostFile for MemoryFile {
         Ok(())
     }
 
-    ghost proper = { λ file. is_memory (memory_of file) file.bytes.items file.holds file.same_size file.fits };
+    ghost proper = { λ file. is_memory (file_memory file) file.bytes.items file.holds file.same_size file.fits };
 }

@@ -3,7 +3,7 @@ ghost use Rattle.std.specs.Prelude.{◌≡◌, ◌≤◌, ◌+◌, vec_len, leng
 ghost use Rattle.std.proofs.Props.{props};
 ghost use Rattle.cell_types.specs.Bytes.{AreBytes};
 ghost use Rattle.host_files.specs.File.{patched};
-ghost use Rattle.host_files.specs.Memory.{after_changes, all_sure};
+ghost use Rattle.host_files.specs.Memory.{held_after_all, all_sure};
 
 use crate::{FileChange, Leaving};
 use cell_types::NoMemory;
@@ -25,7 +25,7 @@ fn overwrite(bytes: &mut [u8], from: usize, piece: [u8; 16])
     bytes[from..from + 16].copy_from_slice(&piece);
 }
 
-/// A file in memory. Contracts see the words of `Memory`: `memory_of` for all that it tells, and `room_of` for how many
+/// A file in memory. Contracts see the words of `Memory`: `file_memory` for all that it tells, and `file_room` for how many
 /// further changes its record has room for.
 #[derive(Drop)]
 pub struct MemoryFile {
@@ -39,7 +39,7 @@ pub struct MemoryFile {
     leaving: Leaving,
     faults: u64,
     parts: u64,
-    ghost holds: { bytes.items ≡ (after_changes (all_sure first.items) changes.items).bytes } by { Prim.hlevel props },
+    ghost holds: { bytes.items ≡ (held_after_all (all_sure first.items) changes.items).bytes } by { Prim.hlevel props },
     ghost same_size: { length bytes.items ≡ length first.items },
     ghost fits: { AreBytes bytes.items } by { Prim.hlevel props },
 }
@@ -47,14 +47,14 @@ pub struct MemoryFile {
 impl MemoryFile {
     ghost use Rattle.std.specs.Prelude.{◌≤◌, ◌<◌, ◌+◌, ◌-◌, ◌^◌, ◌↔◌, ℕ, vec_capacity, [], None, Some, IfOk, IsTrue, OnOk, OnErr, IsOk, length, take, drop};
     ghost use Rattle.worm_device.specs.Counts.{next_count};
-    ghost use Rattle.host_files.specs.Memory.{FileMemory, held_at, with_call, with_change, with_fault, with_part};
-    ghost use Rattle.host_files.specs.MemoryFile.{memory_of, room_of, state_of};
+    ghost use Rattle.host_files.specs.Memory.{FileMemory, held_at, file_with_call, file_with_change, file_with_fault, with_part};
+    ghost use Rattle.host_files.specs.MemoryFile.{file_memory, file_room, memory_file_state};
     ghost use Rattle.host_files.specs.Device.{SureStands};
     ghost use Rattle.host_files.specs.declared.change.FileChange.TheVariants.{Put, Synced};
 
     /// A file of these bytes, all of them sure, whose record has room for so many changes. No call is to fail.
     pub fn new(bytes: Vec<u8>, changes: u32) -> Result<MemoryFile, NoMemory>
-        ensures made { IfOk result (λ file. memory_of file ≡ record {
+        ensures made { IfOk result (λ file. file_memory file ≡ record {
           first = bytes.items;
           changes = [];
           calls = 0;
@@ -64,8 +64,8 @@ impl MemoryFile {
           blank_at = None;
           blank_size = 0;
         }) }
-        ensures room { IfOk result (λ file. changes ≤ room_of file) }
-        ensures stands { IfOk result (λ file. (cells : ℕ) → SureStands cells (state_of file).told) }
+        ensures room { IfOk result (λ file. changes ≤ file_room file) }
+        ensures stands { IfOk result (λ file. (cells : ℕ) → SureStands cells (memory_file_state file).told) }
     {
         let Ok(first) = bytes.clone() else {
             return Err(NoMemory);
@@ -90,8 +90,8 @@ impl MemoryFile {
     /// Lets the call of this number fail, from 1, and no other. Reads, writes and syncs count. A write leaves this
     /// then.
     pub fn fail_at(&mut self, call: u32, leaving: Leaving)
-        ensures planned { memory_of self.new ≡ record (memory_of self.old) { fails = Some call } }
-        ensures room { room_of self.new ≡ room_of self.old }
+        ensures planned { file_memory self.new ≡ record (file_memory self.old) { fails = Some call } }
+        ensures room { file_room self.new ≡ file_room self.old }
     {
         self.fails = Some(call);
         self.leaving = leaving;
@@ -99,23 +99,23 @@ impl MemoryFile {
 
     /// What it holds.
     pub fn bytes(&self) -> &[u8]
-        ensures { result.now ≡ (held_at (memory_of self.now) (memory_of self.now).changes).bytes }
+        ensures { result.now ≡ (held_at (file_memory self.now) (file_memory self.now).changes).bytes }
     {
         &self.bytes
     }
 
     /// How many bytes it has.
     pub(crate) fn count(&self) -> u64
-        ensures { result ≡ length (memory_of self.now).first }
+        ensures { result ≡ length (file_memory self.now).first }
     {
         self.first.len() as u64
     }
 
     /// Counts a call, and answers whether it is to fail.
     pub(crate) fn begin(&mut self) -> bool
-        ensures counted { memory_of self.new ≡ with_call (memory_of self.old) }
-        ensures fails { IsTrue result ↔ ((memory_of self.old).fails ≡ Some ((memory_of self.old).calls + 1)) }
-        ensures room { room_of self.new ≡ room_of self.old }
+        ensures counted { file_memory self.new ≡ file_with_call (file_memory self.old) }
+        ensures fails { IsTrue result ↔ ((file_memory self.old).fails ≡ Some ((file_memory self.old).calls + 1)) }
+        ensures room { file_room self.new ≡ file_room self.old }
     {
         self.blank_at = None;
         self.blank_size = 0;
@@ -133,8 +133,8 @@ impl MemoryFile {
 
     /// Counts a fault.
     pub(crate) fn fail(&mut self) -> Failed
-        ensures counted { memory_of self.new ≡ with_fault (memory_of self.old) }
-        ensures fits { (memory_of self.old).faults < 2 ^ 64 }
+        ensures counted { file_memory self.new ≡ file_with_fault (file_memory self.old) }
+        ensures fits { (file_memory self.old).faults < 2 ^ 64 }
     {
         self.faults = self.faults.saturating_add(1);
         Failed
@@ -142,24 +142,24 @@ impl MemoryFile {
 
     /// How many further changes the record has room for.
     pub(crate) fn room(&self) -> usize
-        ensures { result ≡ room_of self.now }
+        ensures { result ≡ file_room self.now }
     {
         self.changes.capacity() - self.changes.len()
     }
 
     /// Gives bytes from this offset on.
     pub(crate) fn give(&self, into: &mut [u8], from: usize)
-        requires { from + length into.old ≤ length (memory_of self.now).first }
+        requires { from + length into.old ≤ length (file_memory self.now).first }
         ensures { into.new ≡ take (length into.new)
-            (drop from (held_at (memory_of self.now) (memory_of self.now).changes).bytes) }
+            (drop from (held_at (file_memory self.now) (file_memory self.now).changes).bytes) }
     {
         into.copy_from_slice(&self.bytes[from..from + into.len()]);
     }
 
     /// So many zeros were found at this offset.
     pub(crate) fn found_blank(&mut self, from: u64, count: u64)
-        ensures found { memory_of self.new ≡ record (memory_of self.old) { blank_at = Some from; blank_size = count } }
-        ensures room { room_of self.new ≡ room_of self.old }
+        ensures found { file_memory self.new ≡ record (file_memory self.old) { blank_at = Some from; blank_size = count } }
+        ensures room { file_room self.new ≡ file_room self.old }
     {
         self.blank_at = Some(from);
         self.blank_size = count;
@@ -167,10 +167,10 @@ impl MemoryFile {
 
     /// Puts sixteen bytes, where the record has room.
     pub(crate) fn put(&mut self, from: u64, piece: [u8; 16])
-        requires inside { from + 16 ≤ length (memory_of self.old).first }
-        requires room { 1 ≤ room_of self.old }
-        ensures put { memory_of self.new ≡ with_change (memory_of self.old) (Put from piece) }
-        ensures left { room_of self.new + 1 ≡ room_of self.old }
+        requires inside { from + 16 ≤ length (file_memory self.old).first }
+        requires room { 1 ≤ file_room self.old }
+        ensures put { file_memory self.new ≡ file_with_change (file_memory self.old) (Put from piece) }
+        ensures left { file_room self.new + 1 ≡ file_room self.old }
         ensures sixteen { length piece ≡ 16 }
     {
         overwrite(self.bytes.as_mut_slice(), from as usize, piece);
@@ -179,10 +179,10 @@ impl MemoryFile {
 
     /// Puts a part, where the record has room.
     pub(crate) fn put_part(&mut self, from: u64, part: [u8; 16])
-        requires inside { from + 16 ≤ length (memory_of self.old).first }
-        requires room { 1 ≤ room_of self.old }
-        ensures put { memory_of self.new ≡ with_part (with_change (memory_of self.old) (Put from part)) }
-        ensures fits { (memory_of self.old).parts < 2 ^ 64 }
+        requires inside { from + 16 ≤ length (file_memory self.old).first }
+        requires room { 1 ≤ file_room self.old }
+        ensures put { file_memory self.new ≡ with_part (file_with_change (file_memory self.old) (Put from part)) }
+        ensures fits { (file_memory self.old).parts < 2 ^ 64 }
         ensures sixteen { length part ≡ 16 }
     {
         self.put(from, part);
@@ -191,8 +191,8 @@ impl MemoryFile {
 
     /// Makes all bytes sure, where the record has room.
     pub(crate) fn make_sure(&mut self)
-        requires { 1 ≤ room_of self.old }
-        ensures { memory_of self.new ≡ with_change (memory_of self.old) Synced }
+        requires { 1 ≤ file_room self.old }
+        ensures { file_memory self.new ≡ file_with_change (file_memory self.old) Synced }
     {
         self.changes.push_reserved(FileChange::Synced);
     }

@@ -14,7 +14,7 @@
 ghost use Rattle.std.specs.Prelude.{◌≡◌, ◌≤◌, ◌<◌, ◌+◌, ◌*◌, ◌^◌, length, OnOk, OnErr};
 ghost use Rattle.worm_device.specs.Counts.{next_count};
 ghost use Rattle.host_files.specs.File.{ReadsAt, WritesAt, WritesPlaces, Flushes};
-ghost use Rattle.host_files.specs.OsFile.{state_of};
+ghost use Rattle.host_files.specs.OsFile.{os_file_state};
 ghost use Rattle.host_files.specs.Proper.{is_file, untold};
 
 use crate::HostFile;
@@ -58,13 +58,13 @@ pub struct OsFile<F> {
 
 impl<F: OpenFile + Drop> OsFile<F> {
     ghost use Rattle.std.specs.Prelude.{IfOk};
-    ghost use Rattle.host_files.specs.OsFile.{state_of};
+    ghost use Rattle.host_files.specs.OsFile.{os_file_state};
     ghost use Rattle.host_files.specs.Proper.{untold};
 
     /// Opens a file that exists, for reading and writing. It neither makes nor empties one. The host's error comes
     /// where there is no such file, it may not be read and written, or it is a folder.
     pub fn open<R: Files<File = F>>(rt: &R, path: &str) -> io::Result<OsFile<F>>
-        ensures fresh { IfOk result (λ file. state_of file ≡ untold (state_of file).size 0) }
+        ensures fresh { IfOk result (λ file. os_file_state file ≡ untold (os_file_state file).size 0) }
     {
         let opened = OpenOptions::new().read(true).write(true).open(rt, path)?;
         // Where the program was started with a port closed, the file has got that port's number. A clone never has
@@ -76,12 +76,12 @@ impl<F: OpenFile + Drop> OsFile<F> {
 }
 
 impl<F> OsFile<F> {
-    ghost use Rattle.host_files.specs.OsFile.{state_of};
+    ghost use Rattle.host_files.specs.OsFile.{os_file_state};
     ghost use Rattle.host_files.specs.Proper.{untold};
 
     /// A file that is open already, for reading and writing, and has so many bytes.
     pub fn over(file: F, size: u64) -> OsFile<F>
-        ensures { state_of result ≡ untold size 0 }
+        ensures { os_file_state result ≡ untold size 0 }
     {
         OsFile {
             file,
@@ -93,10 +93,10 @@ impl<F> OsFile<F> {
 
     /// What a call answers. An error is one fault.
     fn answer(&mut self, done: io::Result<()>) -> Result<(), Failed>
-        ensures ok { OnOk result (state_of self.new ≡ state_of self.old) }
-        ensures err { OnErr result (state_of self.new
-            ≡ untold (state_of self.old).size (next_count (state_of self.old).faults)) }
-        ensures fits { (state_of self.old).faults < 2 ^ 64 }
+        ensures ok { OnOk result (os_file_state self.new ≡ os_file_state self.old) }
+        ensures err { OnErr result (os_file_state self.new
+            ≡ untold (os_file_state self.old).size (next_count (os_file_state self.old).faults)) }
+        ensures fits { (os_file_state self.old).faults < 2 ^ 64 }
     {
         let _faults = self.faults;
         match done {
@@ -110,12 +110,12 @@ impl<F> OsFile<F> {
 }
 
 impl<F: OpenFile + Hold> OsFile<F> {
-    ghost use Rattle.host_files.specs.OsFile.{state_of};
+    ghost use Rattle.host_files.specs.OsFile.{os_file_state};
 
     /// Takes the lock before the first call, and looks anew at what was read before it. Refuses all after a sync that
     /// failed.
     fn begin(&mut self) -> io::Result<()>
-        ensures { state_of self.new ≡ state_of self.old }
+        ensures { os_file_state self.new ≡ os_file_state self.old }
     {
         match self.access {
             Access::Held => Ok(()),
@@ -133,7 +133,7 @@ impl<F: OpenFile + Hold> OsFile<F> {
 
     /// Syncs the file's data. After a failure no call answers.
     fn flush(&mut self) -> io::Result<()>
-        ensures { state_of self.new ≡ state_of self.old }
+        ensures { os_file_state self.new ≡ os_file_state self.old }
     {
         self.begin()?;
         let done = self.file.sync_data();
@@ -145,7 +145,7 @@ impl<F: OpenFile + Hold> OsFile<F> {
 }
 
 impl<F: FileExt + OpenFile + Hold> HostFile for OsFile<F> {
-    ghost state = { state_of };
+    ghost state = { os_file_state };
 
     fn size(&self) -> u64 {
         self.size

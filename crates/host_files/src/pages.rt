@@ -9,8 +9,8 @@
 //! file meanwhile shows once the page is read anew.
 ghost use Rattle.std.specs.Prelude.{◌≡◌, ◌≢◌, ◌<◌, ◌≤◌, ◌+◌, ◌*◌, ◌/◌, ℕ, List, None, Some, slice_get, vec_len, length, IfOk, IfSome, IsNone, OnOk, OnErr};
 ghost use Rattle.host_files.specs.Cells.{cell_bytes, cell_in};
-ghost use Rattle.host_files.specs.File.{Told, Asks};
-ghost use Rattle.host_files.specs.Pages.{PageHolds, AreApart};
+ghost use Rattle.host_files.specs.File.{Told, AsksFile};
+ghost use Rattle.host_files.specs.Pages.{PageHolds, ArePagesApart};
 
 use crate::HostFile;
 use crate::page::{PAGE_BYTES, PAGE_CELLS, cell_at, cells_on_page, copy_cells, put_at};
@@ -36,7 +36,7 @@ impl Page {
     fn load<F: HostFile>(&mut self, file: &mut F, cells: u32, number: u32) -> Result<(), Failed>
         requires some { 256 * number < cells }
         requires inside { 16 * cells ≤ (F.state file.old).size }
-        ensures asks { Asks (F.state file.old) (F.state file.new) result }
+        ensures asks { AsksFile (F.state file.old) (F.state file.new) result }
         ensures holds { OnOk result ((told : Told) → (F.state file.old).told ≡ Some told
             → PageHolds cells told.now.bytes self.new) }
         ensures number { OnOk result (self.new.number ≡ Some number) }
@@ -62,7 +62,7 @@ pub struct Pages {
     latest: usize,
     ghost inside: { latest < 16 },
     ghost sixteen: { vec_len pages ≡ 16 },
-    ghost apart: { AreApart pages.items },
+    ghost apart: { ArePagesApart pages.items },
 }
 
 impl Pages {
@@ -131,7 +131,7 @@ impl Pages {
         requires some { 256 * number < cells }
         requires inside { 16 * cells ≤ (F.state file.old).size }
         requires new { IsNowhere self.old.pages.items number }
-        ensures asks { Asks (F.state file.old) (F.state file.new) result }
+        ensures asks { AsksFile (F.state file.old) (F.state file.new) result }
         ensures on { IfOk result (λ frame. IsOn self.new.pages.items frame number) }
         ensures holds { HoldOn cells (F.state file.old).told self.old.pages.items self.new.pages.items }
     {
@@ -157,7 +157,7 @@ impl Pages {
     fn hold<F: HostFile>(&mut self, file: &mut F, cells: u32, number: u32) -> Result<usize, Failed>
         requires some { 256 * number < cells }
         requires inside { 16 * cells ≤ (F.state file.old).size }
-        ensures asks { Asks (F.state file.old) (F.state file.new) result }
+        ensures asks { AsksFile (F.state file.old) (F.state file.new) result }
         ensures on { IfOk result (λ frame. IsOn self.new.pages.items frame number) }
         ensures holds { HoldOn cells (F.state file.old).told self.old.pages.items self.new.pages.items }
     {
@@ -179,7 +179,7 @@ impl Pages {
     ) -> Result<Option<Cell>, Failed>
         requires some { at < cells }
         requires inside { 16 * cells ≤ (F.state file.old).size }
-        ensures asks { Asks (F.state file.old) (F.state file.new) result }
+        ensures asks { AsksFile (F.state file.old) (F.state file.new) result }
         ensures answers { IfOk result (λ found. IsToldOf cells at (F.state file.old).told self.old.pages.items found) }
         ensures holds { HoldOn cells (F.state file.old).told self.old.pages.items self.new.pages.items }
     {
@@ -199,7 +199,7 @@ impl Pages {
     ) -> Result<(), Failed>
         requires some { at + length found.old ≤ cells }
         requires inside { 16 * cells ≤ (F.state file.old).size }
-        ensures asks { Asks (F.state file.old) (F.state file.new) result }
+        ensures asks { AsksFile (F.state file.old) (F.state file.new) result }
         ensures size { length found.new ≡ length found.old }
         ensures answers { OnOk result (AreToldOf cells at (F.state file.old).told self.old.pages.items found.new) }
         ensures holds { HoldOn cells (F.state file.old).told self.old.pages.items self.new.pages.items }

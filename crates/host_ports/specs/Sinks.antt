@@ -30,5 +30,5 @@ pub record PutsPart (piece : List ℕ) (old new : SinkState) : Type 0 where
   pub faults : Rose old.faults new.faults
 
 -- what a call does
-abbrev pub Puts : List ℕ → SinkState → SinkState → Result ℕ Failed → Type 0
-Puts piece old new result = MatchResult result (PutsSome piece old new) (λ _. PutsPart piece old new)
+abbrev pub PutsIntoSink : List ℕ → SinkState → SinkState → Result ℕ Failed → Type 0
+PutsIntoSink piece old new result = MatchResult result (PutsSome piece old new) (λ _. PutsPart piece old new)

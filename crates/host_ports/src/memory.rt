@@ -2,7 +2,7 @@
 ghost use Rattle.std.specs.Prelude.{◌≡◌, ◌+◌, ◌<◌, ◌≤◌, ◌⊎◌, ◌↔◌, ◌++◌, [], min, length, drop, None, Some, IfOk, IsErr, IsOk, OnErr, OnOk};
 ghost use Rattle.worm_device.specs.Counts.{next_count};
 ghost use Rattle.host_ports.specs.Memories.{source_of, sink_of};
-ghost use Rattle.host_ports.specs.Sinks.{Puts};
+ghost use Rattle.host_ports.specs.Sinks.{PutsIntoSink};
 ghost use Rattle.host_ports.specs.Sources.{Takes};
 
 use crate::schedule::Schedule;
@@ -148,7 +148,7 @@ impl Sink for MemorySink {
     ghost state = { sink_of };
 
     fn put(&mut self, piece: &[u8]) -> Result<usize, Failed>
-        ensures puts { Puts piece.now (sink_of self.old) (sink_of self.new) result }
+        ensures puts { PutsIntoSink piece.now (sink_of self.old) (sink_of self.new) result }
         // It fails exactly where it is to or where room is lacking, and else gets the whole piece.
         ensures fails { IsErr result
             ↔ ((self.old.fails ≡ Some (self.old.calls + 1)) ⊎ (self.old.room < length piece.now)) }

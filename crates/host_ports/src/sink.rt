@@ -1,5 +1,5 @@
 //! A sink for bytes.
-ghost use Rattle.host_ports.specs.Sinks.{SinkState, Puts};
+ghost use Rattle.host_ports.specs.Sinks.{SinkState, PutsIntoSink};
 
 use worm_device::Failed;
 
@@ -11,5 +11,5 @@ pub trait Sink {
     /// Puts some first bytes of the piece behind what the sink holds, and answers how many: at least one of a piece
     /// that is not empty. After a failure it may have got some first bytes of the piece.
     fn put(&mut self, piece: &[u8]) -> Result<usize, Failed>
-        ensures { Puts piece.now (state self.old) (state self.new) result };
+        ensures { PutsIntoSink piece.now (state self.old) (state self.new) result };
 }

@@ -5,7 +5,7 @@
 ghost use Rattle.std.specs.Prelude.{◌≡◌, None, OnErr};
 ghost use Rattle.std.specs.Io.KnownBytes.{ReadConsumes, WriteAppends};
 ghost use Rattle.worm_device.specs.Counts.{next_count};
-ghost use Rattle.host_ports.specs.Sinks.{Puts};
+ghost use Rattle.host_ports.specs.Sinks.{PutsIntoSink};
 ghost use Rattle.host_ports.specs.Sources.{Takes};
 ghost use Rattle.host_ports.specs.Standard.{reader_of, source_over, writer_of, sink_over};
 
@@ -69,7 +69,7 @@ impl<W: Write> Sink for StdSink<W> {
     ghost state = { sink_over };
 
     fn put(&mut self, piece: &[u8]) -> Result<usize, Failed>
-        ensures puts { Puts piece.now (sink_over self.old) (sink_over self.new) result }
+        ensures puts { PutsIntoSink piece.now (sink_over self.old) (sink_over self.new) result }
         ensures writes { WriteAppends (W.contents (writer_of self.old)) (W.contents (writer_of self.new))
             result piece.now }
         ensures once { OnErr result ((sink_over self.new).faults ≡ next_count (sink_over self.old).faults) }

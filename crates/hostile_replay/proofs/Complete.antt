@@ -17,7 +17,7 @@ use Rattle.script_replies.specs.declared.reply.Reply.{Reply}
 use Rattle.script_replies.specs.declared.reply.Reply.TheVariants as reply
 use Rattle.script_replies.specs.Beginnings.{begun_with}
 use Rattle.hostile_replay.specs.Completeness.{CommandsComplete, IsAcknowledgedReply, IsDoneWherePossible, IsFoundReply, IsLookedUpReply, IsSoundReply}
-use Rattle.hostile_replay.specs.Turns.{LookUpRefused, Turns, layout_on}
+use Rattle.hostile_replay.specs.Turns.{LookUpRefused, Turns, event_layout}
 
 module _ (plan : Schedule) (old new : Memory) (device : IsDevice (device_of (begun_with plan old)))
     (device_new : IsDevice (device_of new)) (steady : IsSteady (device_of (begun_with plan old)))
@@ -38,7 +38,7 @@ module _ (plan : Schedule) (old new : Memory) (device : IsDevice (device_of (beg
       → IsDoneWherePossible (event.Format slots lists version plan) r s
   format_done slots lists version reply.Formatted turned = λ is blank. tt
   format_done slots lists version (reply.Refused refusal) turned = λ is blank.
-      formats_whole (layout_on slots lists version old.cells) s t
+      formats_whole (event_layout slots lists version old.cells) s t
       (record { layout = is; tells = refl; blank = blank; alone = alone }) no_fault refusal turned.answers.ends
   format_done slots lists version r turned = absurd turned.answers
 

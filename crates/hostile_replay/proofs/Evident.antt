@@ -8,7 +8,7 @@ use Rattle.worm_device.specs.Counts.{IsStill, Rose}
 use Rattle.worm_device.specs.State.{DeviceState}
 use Rattle.worm_memory.specs.Memory.{Memory, device_of}
 use Rattle.commit_record.specs.Licences.{IsLicensed}
-use Rattle.ingest_engine.specs.Ingesting.{IsNamed, by_plan, by_settling, in_index}
+use Rattle.ingest_engine.specs.Ingesting.{IsIngestEvidence, by_plan, by_settling, in_index}
 use Rattle.record_query.specs.LookingUp.{LookUpEnds}
 use Rattle.volume_audit.proofs.Comes.{licensed}
 use Rattle.hostile_replay.specs.Headline.{IsEvident, TamperingIsEvident}
@@ -43,7 +43,7 @@ evident e old new later l = record {
 }
 
 named_licensed : {id : List ℕ} {stamp : Option ℕ} {body : List ℕ} {old new : DeviceState} {e : Evidence}
-    → IsNamed id stamp body old new e → IsLicensed old new e
+    → IsIngestEvidence id stamp body old new e → IsLicensed old new e
 named_licensed (by_settling settles found) = found.licensed
 named_licensed (by_plan way) = way.found.licensed
 named_licensed (in_index ready slot rule licensed) = licensed

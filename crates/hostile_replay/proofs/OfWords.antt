@@ -15,7 +15,7 @@ use Rattle.volume_audit.specs.Audits.{SettlesThenAudits}
 use Rattle.volume_audit.proofs.Comes.{refuses}
 use Rattle.hostile_replay.specs.Headline.{Headline}
 use Rattle.hostile_replay.specs.Refusals.{IsOfWords, NoneIsOfWords}
-use Rattle.hostile_replay.specs.Turns.{LookUpRefused, layout_on}
+use Rattle.hostile_replay.specs.Turns.{LookUpRefused, event_layout}
 use Rattle.script_replies.specs.Beginnings.{begun_with}
 use Rattle.script_events.specs.declared.event.Event.TheVariants as event
 use Rattle.hostile_replay.proofs.Evident.{tampering_evident}
@@ -96,7 +96,7 @@ no_audit old new refusal comes of = of
 
 pub none_of_words : NoneIsOfWords
 none_of_words (event.Format slots lists version plan) refusal old new t of =
-    no_format (layout_on slots lists version old.cells) (device_of (begun_with plan old)) (device_of new)
+    no_format (event_layout slots lists version old.cells) (device_of (begun_with plan old)) (device_of new)
     refusal t.answers.ends of
 none_of_words (event.Ingest id stamp body plan) refusal old new t of =
     no_ingest id stamp body (device_of (begun_with plan old)) (device_of new) refusal t.answers.ends of

@@ -18,7 +18,7 @@ use Rattle.recovery_engine.specs.declared.settling.Ready.{Ready}
 use Rattle.crash_laws.specs.SettlingSteadiness.{IsSteady}
 use Rattle.crash_laws.proofs.LeftWhole.{held_unmoved, settling_keeps}
 use Rattle.ingest_engine.specs.Ingesting as ingesting
-use Rattle.ingest_engine.specs.Ingesting.{ComesTo, document_in}
+use Rattle.ingest_engine.specs.Ingesting.{IngestComesTo, document_in}
 use Rattle.crash_laws.specs.Steadiness.{HasOneMore}
 use Rattle.volume_audit.proofs.Comes.{settles_first}
 use Rattle.command_laws.specs.Begins.{BeginsSteady}
@@ -32,7 +32,7 @@ use Rattle.script_replies.specs.declared.reply.Reply.{Reply}
 use Rattle.script_replies.specs.declared.reply.Reply.TheVariants as reply
 use Rattle.script_replies.specs.Beginnings.{begun_with}
 use Rattle.hostile_replay.specs.Steadily.{IsCommand, IsWholeTurn, begun_by}
-use Rattle.hostile_replay.specs.Turns.{Turns, layout_on}
+use Rattle.hostile_replay.specs.Turns.{Turns, event_layout}
 use Rattle.hostile_replay.specs.Undisturbed.{IsDoneReply}
 
 -- what a settled image holds are its documents
@@ -75,7 +75,7 @@ module _ (s t : DeviceState) (device : IsDevice s) (device_new : IsDevice t) (be
         longer documents (document_in n id body)
         (lists_one t.cells t.image documents (documents ++ document_in n id body ∷ []) now added)
 
-    ingest_read : ComesTo id stamp body s t → Rose s.reads t.reads
+    ingest_read : IngestComesTo id stamp body s t → Rose s.reads t.reads
     ingest_read (ingesting.nothing same) = absurd (not_held (held_unmoved same documents held))
     ingest_read (ingesting.settling refusal settles) = absurd (not_held
         (subst (λ (k : ℕ). Held k t.image documents) (sym settles.called.cells)
@@ -102,7 +102,7 @@ module _ (plan : Schedule) (old new : Memory) (device : IsDevice (device_of (beg
       → IsDoneReply r → IsDoneSo s t
   format_so slots lists version reply.Formatted turned done = record {
     read = turned.answers.read refl;
-    settled = (format_makes (layout_on slots lists version old.cells) s t refl device begins turned.answers.called
+    settled = (format_makes (event_layout slots lists version old.cells) s t refl device begins turned.answers.called
         turned.answers.only device_new turned.answers.ends).settled;
   }
   format_so slots lists version (reply.Refused refusal) turned done = absurd done

@@ -5,7 +5,7 @@ use Rattle.volume_meaning.specs.Documents.{Stands}
 use Rattle.worm_device.specs.State.{DeviceState}
 use Rattle.worm_memory.specs.Memory.{Memory, device_of}
 use Rattle.host_ports.specs.Sinks.{Gets}
-use Rattle.record_query.specs.Finding.{IsMatch, Rises}
+use Rattle.record_query.specs.Finding.{IsMatch, MatchesRise}
 use Rattle.record_query.specs.declared.found.Match.{Match}
 use Rattle.hostile_replay.specs.Headline.{ReturnedStand, ReturnsStanding, StandsAndMatches}
 use Rattle.hostile_replay.specs.Turns.{BodyAnswered, Turns}
@@ -34,7 +34,7 @@ match_stands m = record { body = m.body; stands = m.stands; bytes_is = m.bytes_i
 turn_stands : (e : Event) (r : Reply) (old new : Memory) → Turns e r old new → ReturnsStanding e r (device_of new)
 turn_stands (event.Find terms plan) (reply.Found matches) old new t =
     let finds = t.answers.searches.ends refl in
-    subst (λ (l : List Match). ((found : Match) → Contains l found → StandsAndMatches (device_of new) terms found) × Rises 0 l)
+    subst (λ (l : List Match). ((found : Match) → Contains l found → StandsAndMatches (device_of new) terms found) × MatchesRise 0 l)
     (sym t.answers.matches_are) (λ found among. match_stands (finds.only found among), finds.rise)
 turn_stands (event.Lookup id plan) (reply.Body slot body) old new t =
     let a = t.answers in

@@ -10,7 +10,7 @@ use Rattle.tamper_rules.specs.Settling.{Held}
 use Rattle.worm_device.specs.Counts.{IsStill, Rose}
 use Rattle.worm_device.specs.State.{DeviceState, IsDevice}
 use Rattle.worm_memory.specs.Memory.{Memory, device_of, mark_of}
-use Rattle.worm_memory.specs.Plans.{Plan, is_due, is_reached, last_faults, last_foreign_writes, may_be_written, may_fail, may_stop}
+use Rattle.worm_memory.specs.Plans.{CommandPlan, is_due, is_reached, last_faults, last_foreign_writes, may_be_written, may_fail, may_stop}
 use Rattle.worm_memory.specs.declared.mark.Mark.{Mark}
 use Rattle.worm_memory.specs.declared.moment.Moment.{Moment}
 use Rattle.worm_memory.proofs.Accounts.{faults_append, foreign_writes_append}
@@ -55,7 +55,7 @@ unshared_count : {plan : Schedule} {old new : Memory} {Answers : DeviceState →
     → CarriesOut plan old new Answers → plan.foreign ≡ [] → new.foreign_writes ≡ old.foreign_writes
 unshared_count {plan} {old} {new} c alone =
     c.by_plan.keeps.unwritten
-    (ap (λ (p : Plan). may_be_written p new.steps new.calls) c.by_plan.plan_is
+    (ap (λ (p : CommandPlan). may_be_written p new.steps new.calls) c.by_plan.plan_is
     ∙ ap (λ (l : List Timed). list_any (is_due new.steps new.calls) (map planned_of l)) alone)
     ∙ ap last_foreign_writes c.by_plan.marks ∙ foreign_writes_append 0 old.marks (mark_of old)
 
@@ -64,7 +64,7 @@ plain_faults : {plan : Schedule} {old new : Memory} {Answers : DeviceState → D
     → CarriesOut plan old new Answers → PlansNothing plan → new.faults ≡ old.faults
 plain_faults {plan} {old} {new} c plain =
     c.by_plan.keeps.none
-    (ap (λ (p : Plan). may_fail p new.steps new.calls) c.by_plan.plan_is
+    (ap (λ (p : CommandPlan). may_fail p new.steps new.calls) c.by_plan.plan_is
     ∙ ap (λ (o : Option Moment). may_stop o new.steps new.calls
     || list_any (is_reached new.steps new.calls) plan.fail) plain.stop
     ∙ ap (λ (l : List Moment). list_any (is_reached new.steps new.calls) l) plain.fail)

@@ -33,7 +33,7 @@ use Rattle.script_replies.specs.declared.reply.Reply.{Reply}
 use Rattle.script_replies.specs.declared.reply.Reply.TheVariants as reply
 use Rattle.script_replies.specs.Beginnings.{begun_with}
 use Rattle.hostile_replay.specs.Steadily.{CommandsAreWhole, IsTurnedDown, IsWholeTurn}
-use Rattle.hostile_replay.specs.Turns.{LookUpRefused, Turns, layout_on}
+use Rattle.hostile_replay.specs.Turns.{LookUpRefused, Turns, event_layout}
 use Rattle.hostile_replay.proofs.Standing.{body_is}
 
 same_refusal : (a b : Refusal) → reply.Refused a ≡ reply.Refused b → a ≡ b
@@ -55,16 +55,16 @@ module _ (plan : Schedule) (old new : Memory) (device : IsDevice (device_of (beg
   format_whole : (slots lists version : ℕ) (r : Reply) → Turns (event.Format slots lists version plan) r old new
       → IsWholeTurn (event.Format slots lists version plan) r old new
   format_whole slots lists version reply.Formatted turned = record {
-    leaves = format_leaves (layout_on slots lists version old.cells) s t refl device begins turned.answers.called
+    leaves = format_leaves (event_layout slots lists version old.cells) s t refl device begins turned.answers.called
         turned.answers.only (Ok tt) turned.answers.ends;
     tells = λ done. absurd done;
     no_alarm = λ e named. absurd cc;
   }
   format_whole slots lists version (reply.Refused refusal) turned = record {
-    leaves = format_leaves (layout_on slots lists version old.cells) s t refl device begins turned.answers.called
+    leaves = format_leaves (event_layout slots lists version old.cells) s t refl device begins turned.answers.called
         turned.answers.only (Err refusal) turned.answers.ends;
     tells = λ done. absurd done;
-    no_alarm = λ e named. (subst (λ (r : Refusal). Formats (layout_on slots lists version old.cells) s t (Err r))
+    no_alarm = λ e named. (subst (λ (r : Refusal). Formats (event_layout slots lists version old.cells) s t (Err r))
         (same_refusal refusal (refusals.Tampered e) named) turned.answers).ends;
   }
   format_whole slots lists version r turned = absurd turned.answers

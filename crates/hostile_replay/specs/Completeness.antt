@@ -14,7 +14,7 @@ use Rattle.script_events.specs.declared.event.Event.TheVariants as event
 use Rattle.script_replies.specs.declared.reply.Reply.{Reply}
 use Rattle.script_replies.specs.declared.reply.Reply.TheVariants as reply
 use Rattle.hostile_replay.specs.Steadily.{begun_by}
-use Rattle.hostile_replay.specs.Turns.{Turns, layout_on}
+use Rattle.hostile_replay.specs.Turns.{Turns, event_layout}
 
 -- the answers of commands that are done, or for which no memory was to be had
 
@@ -51,7 +51,7 @@ IsSettledReply r = ⊥
 -- its document has a place, the others on a volume.
 abbrev pub IsDoneWherePossible : Event → Reply → DeviceState → Type 0
 IsDoneWherePossible (event.Format slots lists version plan) r old =
-    IsLayout (layout_on slots lists version old.cells) → ((cell : ℕ) → old.image cell ≡ None) → IsFormattedReply r
+    IsLayout (event_layout slots lists version old.cells) → ((cell : ℕ) → old.image cell ≡ None) → IsFormattedReply r
 IsDoneWherePossible (event.Ingest id stamp body plan) r old =
     (g : Layout) (slot : ℕ) → HasPlaceFor id stamp body g slot old → IsAcknowledgedReply r
 IsDoneWherePossible (event.Find terms plan) r old = (g : Layout) → IsVolume old.cells old.image g → IsFoundReply r

@@ -18,7 +18,7 @@ use Rattle.worm_device.specs.Counts.{Rose}
 use Rattle.worm_device.specs.State.{DeviceState, IsDevice}
 use Rattle.worm_memory.specs.Memory.{Memory, device_of}
 use Rattle.ingest_engine.specs.Ingesting.{document_in}
-use Rattle.record_query.specs.Finding.{HasMatch, HasTerms, Rises}
+use Rattle.record_query.specs.Finding.{HasMatch, HasTerms, MatchesRise}
 use Rattle.record_query.specs.declared.found.Match.{Match}
 use Rattle.script_events.specs.declared.event.Event.{Event}
 use Rattle.script_events.specs.declared.event.Event.TheVariants as event
@@ -57,7 +57,7 @@ pub record StandsAndMatches (s : DeviceState) (terms : List (List ℕ)) (found :
 -- Every document that is returned stands on the device and matches; slots rise.
 abbrev pub ReturnsStanding : Event → Reply → DeviceState → Type 0
 ReturnsStanding (event.Find terms plan) (reply.Found matches) s =
-    ((found : Match) → Contains matches found → StandsAndMatches s terms found) × Rises 0 matches
+    ((found : Match) → Contains matches found → StandsAndMatches s terms found) × MatchesRise 0 matches
 ReturnsStanding (event.Lookup id plan) (reply.Body slot body) s = Stands s.cells s.image slot id body
 ReturnsStanding e r s = ⊤
 

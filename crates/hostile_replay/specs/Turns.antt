@@ -30,16 +30,16 @@ use Rattle.script_replies.specs.declared.reply.Reply.TheVariants as reply
 use Rattle.script_replies.specs.Beginnings.{begun_with, plan_by}
 
 -- the layout that a format makes on a device of so many cells
-abbrev pub layout_on : ℕ → ℕ → ℕ → ℕ → Layout
-layout_on slots lists version cells = record { slots = slots; lists = lists; cells = cells; version = version }
+abbrev pub event_layout : ℕ → ℕ → ℕ → ℕ → Layout
+event_layout slots lists version cells = record { slots = slots; lists = lists; cells = cells; version = version }
 
 -- how each command is answered, by what its engine did between two states of the device
 
 abbrev pub FormatAnswers : ℕ → ℕ → ℕ → DeviceState → DeviceState → Reply → Type 0
 FormatAnswers slots lists version old new reply.Formatted =
-    Formats (layout_on slots lists version old.cells) old new (Ok tt)
+    Formats (event_layout slots lists version old.cells) old new (Ok tt)
 FormatAnswers slots lists version old new (reply.Refused refusal) =
-    Formats (layout_on slots lists version old.cells) old new (Err refusal)
+    Formats (event_layout slots lists version old.cells) old new (Err refusal)
 FormatAnswers slots lists version old new other = ⊥
 
 abbrev pub IngestAnswers : List ℕ → Option ℕ → List ℕ → DeviceState → DeviceState → Reply → Type 0

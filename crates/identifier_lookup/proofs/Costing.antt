@@ -13,7 +13,7 @@ use Rattle.volume_meaning.specs.Nodes as nodes
 use Rattle.volume_meaning.specs.Nodes.{IsOnPath}
 use Rattle.tamper_rules.proofs.GoingOn.{on_path_on}
 use Rattle.worm_device.specs.Views.{ViewState, Viewed}
-use Rattle.identifier_lookup.specs.Costs.{AreCellsOf, CompareCosts, Comparison, Fall, HasDocumentCells, IsComparison, WalkCosts, cells_in}
+use Rattle.identifier_lookup.specs.Costs.{AreDocumentCells, CompareCosts, Comparison, Fall, HasDocumentCells, IsComparison, WalkCosts, cells_in}
 
 -- a path that is passed is a way
 pub passed_is_way : {g : Layout} {image : Image} {s : Sought} {node level : ℕ} → s.pool ≡ pool_at g
@@ -24,8 +24,8 @@ passed_is_way pool cells (down node level above before is rest passed leads) =
     (omega (arith, pool, leads.inside_from)) (omega (arith, leads.inside_to, cells))
 
 -- a comparison goes on being one
-cells_on : {g : Layout} {old new : Image} {n cells : ℕ} → Extends old new → AreCellsOf g old n cells
-    → AreCellsOf g new n cells
+cells_on : {g : Layout} {old new : Image} {n cells : ℕ} → Extends old new → AreDocumentCells g old n cells
+    → AreDocumentCells g new n cells
 cells_on e are = ⊎_elim inl
     (λ (h : HasDocumentCells _ _ _ _). inr (record {
       start = h.start;

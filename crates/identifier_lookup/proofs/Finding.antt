@@ -22,7 +22,7 @@ use Rattle.worm_device.proofs.Resting.{viewed_self, viewed_then}
 use Rattle.document_store.specs.Looks.{HoldsIdentifier, IsSame, LookFails}
 use Rattle.document_store.proofs.Holding.{held_stands}
 use Rattle.document_store.proofs.Naming.{fails_from}
-use Rattle.hash_tree.specs.Levels.{AreBounds, IsLedWithin, IsPlaced, IsReached, bucket_at, child_at, first_level, node_of}
+use Rattle.hash_tree.specs.Levels.{AreBounds, IsLedWithin, IsLevelPlaced, IsLevelReached, bucket_at, child_at, first_level, node_of}
 use Rattle.hash_tree.specs.Steps.{EndsAt, IsOpenAt, IsPassedUpTo, PassesAbove, Steps, blank_bucket, blank_child, candidate, full, no_bucket, no_child}
 use Rattle.hash_tree.specs.declared.level.Level.{Level}
 use Rattle.hash_tree.specs.declared.path.Open.{Open}
@@ -33,7 +33,7 @@ use Rattle.hash_tree.proofs.Licence.{bucket_place}
 use Rattle.hash_tree.proofs.Paths.{false_never}
 use Rattle.identifier_lookup.specs.Candidates.{Compares, HoldsNamed, NamesBucket}
 use Rattle.identifier_lookup.specs.Costs.{WalkCosts}
-use Rattle.identifier_lookup.specs.Walks.{HasTrail, IsBlankIn, IsPassedAbove, LooksUp, NoneHasTrail, WalkEnds, Walks}
+use Rattle.identifier_lookup.specs.Walks.{HasIdentifierTrail, IsBlankIn, IsPassedAbove, LooksUpSlot, NoneHasTrail, WalkEnds, WalksPath}
 use Rattle.identifier_lookup.specs.declared.answers.Walk.TheVariants as walks
 use Rattle.identifier_lookup.specs.declared.candidates.Named.{Named}
 use Rattle.identifier_lookup.proofs.Costing.{CostsSoFar, below_candidate, below_next, compared_below, costs_begin, costs_end, costs_end_there, costs_more, passed_is_way}
@@ -45,8 +45,8 @@ pub record WalkSoFar (g : Layout) (edge : ℕ) (id : List ℕ) (old now : ViewSt
   pub costs : CostsSoFar g id old now level.number (compared_below level.number level.answered)
   pub faults : now.base.faults ≡ old.base.faults
   pub digest : level.digest ≡ sha256 id
-  pub placed : IsPlaced g edge now level
-  pub reached : IsTrue old.base.tells → IsReached g now.image level
+  pub placed : IsLevelPlaced g edge now level
+  pub reached : IsTrue old.base.tells → IsLevelReached g now.image level
   pub led_within : IsTrue old.base.tells → IsLedWithin g now.image level.led_by
   pub passed : IsTrue old.base.tells → IsVolume old.cells old.image g
       → IsPassedUpTo g edge now.image (root_at g) (sought_in old.cells g id) level
@@ -157,7 +157,7 @@ module _ (g : Layout) (horizon edge : ℕ) (id : List ℕ) (old now mid : ViewSt
         → PassedTo mid.image s (root_at g) (node_of g next) next.number
     passed_here tells volume = step.goes_on (told tells) (root_at g) s (up_to tells volume)
 
-    reached_here : IsTrue old.base.tells → IsReached g mid.image next
+    reached_here : IsTrue old.base.tells → IsLevelReached g mid.image next
     reached_here tells = step.reached (told tells) (reached_on level step.viewed.image (so_far.reached tells))
 
     led_here : IsTrue old.base.tells → IsLedWithin g mid.image next.led_by
@@ -171,7 +171,7 @@ module _ (g : Layout) (horizon edge : ℕ) (id : List ℕ) (old now mid : ViewSt
 
     -- a hash trail at entry goes on from there
     trail_here : IsTrue old.base.tells → IsVolume old.cells old.image g → (n : ℕ)
-        → (t : HasTrail g old.cells old.image id n) → HashTrail mid.image s n (node_of g next) next.number
+        → (t : HasIdentifierTrail g old.cells old.image id n) → HashTrail mid.image s n (node_of g next) next.number
     trail_here tells volume n t =
         follows (passed_here tells volume) n t.body (stands_on whole.image t.stands) (hash_trail_on whole.image t.trail)
 
@@ -188,7 +188,7 @@ module _ (g : Layout) (horizon edge : ℕ) (id : List ℕ) (old now mid : ViewSt
 
   -- a step that gives no answer
   pub walk_fails : (fault : Fault) → Steps g edge now mid level next (Err fault)
-      → Walks g horizon edge id old mid (Err fault)
+      → WalksPath g horizon edge id old mid (Err fault)
   walk_fails Failed step = record {
     viewed = viewed_then so_far.viewed step.viewed;
     costs = costs_here (Err Failed) step;
@@ -238,7 +238,7 @@ module _ (g : Layout) (horizon edge : ℕ) (id : List ℕ) (old now mid : ViewSt
         subst (λ (c : ℕ). IsPassed mid.image (sought_in c g id) place.bucket) (cells_now ended step (whole ended step))
         (subst (λ (c : ℕ). IsPassed mid.image s c) (sym at.0) (above (root_at g) s (up_to ended step tells volume)))
 
-    pub walk_ends : Walks g horizon edge id old mid (Ok (walks.End place next))
+    pub walk_ends : WalksPath g horizon edge id old mid (Ok (walks.End place next))
     walk_ends = record {
       viewed = whole ended step;
       costs = costs_here ended step;
@@ -283,7 +283,7 @@ module _ (g : Layout) (horizon edge : ℕ) (id : List ℕ) (old now mid : ViewSt
         (subst (λ (c : ℕ). IsPassed mid.image s c) (bucket_is filled step)
         ((step.ends.2 (told tells)).1 (root_at g) s (up_to filled step tells volume)))
 
-    pub walk_full : Walks g horizon edge id old mid (Ok walks.PathFull)
+    pub walk_full : WalksPath g horizon edge id old mid (Ok walks.PathFull)
     walk_full = record {
       viewed = whole filled step;
       costs = costs_here filled step;
@@ -378,7 +378,7 @@ module _ (g : Layout) (horizon edge : ℕ) (id : List ℕ) (old now mid : ViewSt
           h
 
       pub compare_fails : (fault : Fault) → Compares g horizon named id mid new (Err fault)
-          → Walks g horizon edge id old new (Err fault)
+          → WalksPath g horizon edge id old new (Err fault)
       compare_fails Failed compared = record {
         viewed = viewed_then (whole offered step) compared.viewed;
         costs = costs_whole compared;
@@ -399,7 +399,7 @@ module _ (g : Layout) (horizon edge : ℕ) (id : List ℕ) (old now mid : ViewSt
       holds_own same = subst (λ (i : List ℕ). HoldsIdentifier g new.image slot i) (same.says.0 refl) same.holds
 
       pub walk_finds : Compares g horizon named id mid new (Ok true)
-          → Walks g horizon edge id old new (Ok (walks.Found slot))
+          → WalksPath g horizon edge id old new (Ok (walks.Found slot))
       walk_finds compared =
           let all = viewed_then (whole offered step) compared.viewed in
           record {
@@ -468,7 +468,7 @@ module _ (g : Layout) (horizon edge : ℕ) (id : List ℕ) (old now mid : ViewSt
 
 -- a look-up finds none where the path ends
 pub none_at_end : (g : Layout) (horizon edge : ℕ) (id : List ℕ) (old new : ViewState) (place : Open) (level : Level)
-    → Walks g horizon edge id old new (Ok (walks.End place level)) → LooksUp g horizon edge id old new (Ok None)
+    → WalksPath g horizon edge id old new (Ok (walks.End place level)) → LooksUpSlot g horizon edge id old new (Ok None)
 none_at_end g horizon edge id old new place level walk = record {
   viewed = walk.viewed;
   costs = walk.costs;
@@ -477,7 +477,7 @@ none_at_end g horizon edge id old new place level walk = record {
 
 -- and where it is full
 pub none_at_full : (g : Layout) (horizon edge : ℕ) (id : List ℕ) (old new : ViewState)
-    → Walks g horizon edge id old new (Ok walks.PathFull) → LooksUp g horizon edge id old new (Ok None)
+    → WalksPath g horizon edge id old new (Ok walks.PathFull) → LooksUpSlot g horizon edge id old new (Ok None)
 none_at_full g horizon edge id old new walk = record {
   viewed = walk.viewed;
   costs = walk.costs;

@@ -18,14 +18,14 @@ use Rattle.worm_device.specs.Views.{ViewState, Viewed}
 use Rattle.worm_device.proofs.Counting.{still_second}
 use Rattle.worm_device.proofs.Resting.{rests_of}
 use Rattle.commit_record.specs.States.{IsNoState, done_abandoned, done_unended, done_unreserved, done_wrongly, ends_unreserved, ends_unstamped, ends_wrongly, reserves_none}
-use Rattle.document_store.specs.Looks.{Names, of_document, of_state}
+use Rattle.document_store.specs.Looks.{NamesDocument, of_document, of_state}
 use Rattle.document_store.specs.Standing.{HoldsDocument}
 use Rattle.document_store.proofs.Holding.{held_on}
-use Rattle.hash_tree.specs.Levels.{AreBounds, IsReached, IsWithin, bucket_at, node_in, node_of}
+use Rattle.hash_tree.specs.Levels.{AreBounds, IsLevelReached, IsNodeWithin, bucket_at, node_in, node_of}
 use Rattle.hash_tree.specs.declared.level.ChildCell.{ChildCell}
 use Rattle.hash_tree.specs.declared.level.Level.{Level}
 use Rattle.identifier_lookup.specs.Candidates.{IsFake}
-use Rattle.identifier_lookup.specs.Walks.{IsLicensed, IsWalkRule}
+use Rattle.identifier_lookup.specs.Walks.{IsPathLicensed, IsWalkRule}
 use Rattle.identifier_lookup.specs.declared.candidates.Named.{Named}
 
 -- a half byte of a digest
@@ -93,7 +93,7 @@ walk_rule rule h = ⊎_elim inl (λ rest. inr (⊎_elim inl (λ d. inr (inl d)) 
 
 -- evidence of a look at a slot
 pub names_licensed : (g : Layout) (horizon edge n : ℕ) (old new : ViewState) (e : Evidence) → Viewed old new
-    → Names g n old new e → IsLicensed g horizon edge old new e
+    → NamesDocument g n old new e → IsPathLicensed g horizon edge old new e
 names_licensed g horizon edge n old new e viewed (of_state out) = record {
   rule = walk_rule e.rule (state_rule out.seen);
   stands = out.shown.stands;
@@ -132,7 +132,7 @@ buckets : (a b : ℕ) (f h : List ℕ) → Bucket a f ≡ Bucket b h → a ≡ b
 buckets a b f h e = cc
 
 -- a bucket of a node that is the root or lies within the bounds is one of the root or of the pool
-node_bucket : (g : Layout) (edge half cell : ℕ) (led : Option ChildCell) → AreBounds g edge → IsWithin g edge led
+node_bucket : (g : Layout) (edge half cell : ℕ) (led : Option ChildCell) → AreBounds g edge → IsNodeWithin g edge led
     → half < 16 → cell ≡ node_in g led + half → LiesIn g Root cell ⊎ IsOfPool g cell
 node_bucket g edge half cell None bounds within less is =
     inl (record { exists = _; from = omega (arith, is); below = omega (arith, is, less) })
@@ -141,10 +141,10 @@ node_bucket g edge half cell (Some child) bounds within less is =
 
 -- a bucket on the path that names a slot at or past the horizon, or one that is not done
 pub fake_licensed : (g : Layout) (horizon edge : ℕ) (id : List ℕ) (old mid new : ViewState) (named : Named)
-    (level : Level) (e : Evidence) → AreBounds g edge → IsWithin g edge level.led_by → level.digest ≡ sha256 id
-    → Viewed old mid → Viewed mid new → IsReached g new.image level → named.bucket ≡ bucket_at g level
+    (level : Level) (e : Evidence) → AreBounds g edge → IsNodeWithin g edge level.led_by → level.digest ≡ sha256 id
+    → Viewed old mid → Viewed mid new → IsLevelReached g new.image level → named.bucket ≡ bucket_at g level
     → e.rule ≡ FAKE_BUCKET → e.cell ≡ named.bucket → IsFake g horizon named mid.image new.image e
-    → IsLicensed g horizon edge old new e
+    → IsPathLicensed g horizon edge old new e
 fake_licensed g horizon edge id old mid new named level e bounds within digest before after reached at rule cell f =
     let half : nibble level.digest level.number < 16 =
     subst (λ (d : List ℕ). nibble d level.number < 16) (sym digest) (half_byte id level.number) in

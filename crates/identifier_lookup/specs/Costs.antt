@@ -22,14 +22,14 @@ pub record HasDocumentCells (g : Layout) (image : Image) (n cells : ℕ) : Type 
   pub is : cells ≡ cells_for bytes
 
 -- these are no cells, or those of slot n's document
-abbrev pub AreCellsOf : Layout → Image → ℕ → ℕ → Type 0
-AreCellsOf g image n cells = (cells ≡ 0) ⊎ HasDocumentCells g image n cells
+abbrev pub AreDocumentCells : Layout → Image → ℕ → ℕ → Type 0
+AreDocumentCells g image n cells = (cells ≡ 0) ⊎ HasDocumentCells g image n cells
 
 -- Comparing the document of slot n reads each cell of it once at most, and four cells besides at most.
 pub record CompareCosts (g : Layout) (n : ℕ) (old new : ViewState) : Type 0 where
   pub cells : ℕ
   pub reads : new.base.reads ≤ old.base.reads + cells + 4
-  pub are : IsTrue old.base.tells → AreCellsOf g new.image n cells
+  pub are : IsTrue old.base.tells → AreDocumentCells g new.image n cells
 
 -- A comparison on a walk: the level of the node whose bucket named the slot, the node, the slot, and how many cells of
 -- the slot's document were read.
@@ -52,7 +52,7 @@ Fall below (c ∷ cs) = (c.level < below) × Fall c.level cs
 pub record IsComparison (g : Layout) (image : Image) (id : List ℕ) (c : Comparison) : Type 0 where
   pub on_path : IsOnPath g image (sha256 id) c.level c.node
   pub bucket : Holds image (c.node + nibble (sha256 id) c.level) (Bucket c.slot (fingerprint_of (sha256 id)))
-  pub are : AreCellsOf g image c.slot c.cells
+  pub are : AreDocumentCells g image c.slot c.cells
 
 -- so many reads are enough for the cells of a path and for those of the slots that its buckets name: two a level, and
 -- six for each bucket of which the slot is looked at

@@ -17,7 +17,7 @@ use Rattle.tamper_rules.specs.declared.numbers.TheConstants.{BROKEN_DOCUMENT, DO
 use Rattle.worm_device.specs.Counts.{IsStill, Rose}
 use Rattle.worm_device.specs.Views.{ViewState, Viewed}
 use Rattle.document_store.specs.Looks.{HoldsIdentifier}
-use Rattle.hash_tree.specs.Levels.{IsLedWithin, IsPlaced, IsReached, node_of}
+use Rattle.hash_tree.specs.Levels.{IsLedWithin, IsLevelPlaced, IsLevelReached, node_of}
 use Rattle.hash_tree.specs.Steps.{IsHashRule, IsOpenOf}
 use Rattle.hash_tree.specs.declared.level.Level.{Level}
 use Rattle.hash_tree.specs.declared.path.Open.{Open}
@@ -35,14 +35,14 @@ abbrev pub IsPassedBucket : Layout → ℕ → Image → List ℕ → ℕ → Ty
 IsPassedBucket g cells image id bucket = IsPassed image (sought_in cells g id) bucket
 
 -- slot n stands with this identifier, and has a hash trail from the root
-pub record HasTrail (g : Layout) (cells : ℕ) (image : Image) (id : List ℕ) (n : ℕ) : Type 0 where
+pub record HasIdentifierTrail (g : Layout) (cells : ℕ) (image : Image) (id : List ℕ) (n : ℕ) : Type 0 where
   pub body : List ℕ
   pub stands : Stands cells image n id body
   pub trail : HashTrail image (sought_in cells g id) n (root_at g) 0
 
 -- no slot that stands with this identifier has a hash trail
 abbrev pub NoneHasTrail : Layout → ℕ → Image → List ℕ → Type 0
-NoneHasTrail g cells image id = (n : ℕ) → HasTrail g cells image id n → ⊥
+NoneHasTrail g cells image id = (n : ℕ) → HasIdentifierTrail g cells image id n → ⊥
 
 -- Slot n is the first on the path: its bucket stands in the node of this level, up to which the path is passed.
 pub record IsFirstOnPath (g : Layout) (cells : ℕ) (image : Image) (id : List ℕ) (n : ℕ) : Type 0 where
@@ -56,7 +56,7 @@ pub record IsFirstOnPath (g : Layout) (cells : ℕ) (image : Image) (id : List �
 pub record IsFound (g : Layout) (id : List ℕ) (old new : ViewState) (n : ℕ) : Type 0 where
   pub holds : HoldsIdentifier g new.image n id
   pub first : IsVolume old.cells old.image g → IsFirstOnPath g new.cells new.image id n
-  pub alone : IsVolume old.cells old.image g → (m : ℕ) → HasTrail g old.cells old.image id m → m ≡ n
+  pub alone : IsVolume old.cells old.image g → (m : ℕ) → HasIdentifierTrail g old.cells old.image id m → m ≡ n
 
 -- the place is blank: the bucket, or the child cell under it
 abbrev pub IsBlankIn : Image → ℕ → Option ℕ → Type 0
@@ -79,7 +79,7 @@ pub record IsPassedUpToPlace (g : Layout) (cells : ℕ) (image : Image) (id : Li
 -- entry, the path is passed up to there, and no slot that stood with the identifier had a hash trail.
 pub record EndsThere (g : Layout) (id : List ℕ) (old new : ViewState) (place : Open) (level : Level) : Type 0 where
   pub blank : IsBlankIn new.image place.bucket place.child
-  pub reached : IsReached g new.image level
+  pub reached : IsLevelReached g new.image level
   pub led_within : IsLedWithin g new.image level.led_by
   pub passed : IsVolume old.cells old.image g → IsPassedUpToPlace g new.cells new.image id place level
   pub none : IsVolume old.cells old.image g → NoneHasTrail g old.cells old.image id
@@ -92,7 +92,7 @@ pub record IsPassedWhole (g : Layout) (cells : ℕ) (image : Image) (id : List �
 
 -- The path is full: where cell 0 stated this volume at entry, it is passed whole, and no slot that stood with the
 -- identifier had a hash trail.
-pub record IsFull (g : Layout) (id : List ℕ) (old new : ViewState) : Type 0 where
+pub record IsPathFull (g : Layout) (id : List ℕ) (old new : ViewState) : Type 0 where
   pub passed : IsVolume old.cells old.image g → IsPassedWhole g new.cells new.image id
   pub none : IsVolume old.cells old.image g → NoneHasTrail g old.cells old.image id
 
@@ -104,7 +104,7 @@ IsWalkRule number =
 
 -- The licence of evidence. It stands in what the view shows. Where nobody else wrote in the call, cell 0 states this
 -- volume, and the horizon and the edge are such in this image, the rule is broken there.
-pub record IsLicensed (g : Layout) (horizon edge : ℕ) (old new : ViewState) (e : Evidence) : Type 0 where
+pub record IsPathLicensed (g : Layout) (horizon edge : ℕ) (old new : ViewState) (e : Evidence) : Type 0 where
   pub rule : IsWalkRule e.rule
   pub stands : new.image e.cell ≡ Some e.found
   pub broken : IsStill old.base.foreign_writes new.base.foreign_writes → IsVolume new.cells new.image g
@@ -116,38 +116,38 @@ abbrev pub WalkFails : Layout → ℕ → ℕ → ViewState → ViewState → Fa
 WalkFails g horizon edge old new Failed = Rose old.base.faults new.base.faults
 WalkFails g horizon edge old new (Tampered e) =
     IsPlaceOf g e.rule e.cell × (new.base.faults ≡ old.base.faults)
-    × (IsTrue old.base.tells → IsLicensed g horizon edge old new e)
+    × (IsTrue old.base.tells → IsPathLicensed g horizon edge old new e)
 
 -- How a walk may end, and why. What it says of the image holds at its exit.
 abbrev pub WalkEnds : Layout → ℕ → ℕ → List ℕ → ViewState → ViewState → Result Walk Fault → Type 0
 WalkEnds g horizon edge id old new (Ok (Found n)) =
     (n < horizon) × (new.base.faults ≡ old.base.faults) × (IsTrue old.base.tells → IsFound g id old new n)
 WalkEnds g horizon edge id old new (Ok (End place level)) =
-    (level.digest ≡ sha256 id) × IsPlaced g edge new level × IsOpenOf g level place
+    (level.digest ≡ sha256 id) × IsLevelPlaced g edge new level × IsOpenOf g level place
     × (new.base.faults ≡ old.base.faults) × (IsTrue old.base.tells → EndsThere g id old new place level)
 WalkEnds g horizon edge id old new (Ok PathFull) =
-    (new.base.faults ≡ old.base.faults) × (IsTrue old.base.tells → IsFull g id old new)
+    (new.base.faults ≡ old.base.faults) × (IsTrue old.base.tells → IsPathFull g id old new)
 WalkEnds g horizon edge id old new (Err fault) = WalkFails g horizon edge old new fault
 
 -- what a walk does
-pub record Walks (g : Layout) (horizon edge : ℕ) (id : List ℕ) (old new : ViewState) (result : Result Walk Fault)
+pub record WalksPath (g : Layout) (horizon edge : ℕ) (id : List ℕ) (old new : ViewState) (result : Result Walk Fault)
     : Type 0 where
   pub viewed : Viewed old new
   pub costs : WalkCosts g id old new
   pub ends : WalkEnds g horizon edge id old new result
 
 -- how a look-up may end, and why
-abbrev pub LookUpEnds : Layout → ℕ → ℕ → List ℕ → ViewState → ViewState → Result (Option ℕ) Fault → Type 0
-LookUpEnds g horizon edge id old new (Ok (Some n)) =
+abbrev pub LookUpSlotEnds : Layout → ℕ → ℕ → List ℕ → ViewState → ViewState → Result (Option ℕ) Fault → Type 0
+LookUpSlotEnds g horizon edge id old new (Ok (Some n)) =
     (n < horizon) × (new.base.faults ≡ old.base.faults) × (IsTrue old.base.tells → IsFound g id old new n)
-LookUpEnds g horizon edge id old new (Ok None) =
+LookUpSlotEnds g horizon edge id old new (Ok None) =
     (new.base.faults ≡ old.base.faults)
     × (IsTrue old.base.tells → IsVolume old.cells old.image g → NoneHasTrail g old.cells old.image id)
-LookUpEnds g horizon edge id old new (Err fault) = WalkFails g horizon edge old new fault
+LookUpSlotEnds g horizon edge id old new (Err fault) = WalkFails g horizon edge old new fault
 
 -- what a look-up does
-pub record LooksUp (g : Layout) (horizon edge : ℕ) (id : List ℕ) (old new : ViewState)
+pub record LooksUpSlot (g : Layout) (horizon edge : ℕ) (id : List ℕ) (old new : ViewState)
     (result : Result (Option ℕ) Fault) : Type 0 where
   pub viewed : Viewed old new
   pub costs : WalkCosts g id old new
-  pub ends : LookUpEnds g horizon edge id old new result
+  pub ends : LookUpSlotEnds g horizon edge id old new result

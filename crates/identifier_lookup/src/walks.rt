@@ -1,7 +1,7 @@
 //! The walk along the path of an identifier.
 ghost use Rattle.std.specs.Prelude.{◌≤◌};
 ghost use Rattle.hash_tree.specs.Levels.{AreBounds};
-ghost use Rattle.identifier_lookup.specs.Walks.{LooksUp, Walks};
+ghost use Rattle.identifier_lookup.specs.Walks.{LooksUpSlot, WalksPath};
 
 use crate::answers::Walk;
 use crate::candidates::{Named, has_identifier};
@@ -28,7 +28,7 @@ pub fn walk<V: View>(
     requires size { volume.now.geometry.cells ≤ (V.seen view.old).cells }
     requires horizon { horizon ≤ volume.now.geometry.slots }
     requires bounds { AreBounds volume.now.geometry edge }
-    ensures { Walks volume.now.geometry horizon edge id.now (V.seen view.old) (V.seen view.new) result }
+    ensures { WalksPath volume.now.geometry horizon edge id.now (V.seen view.old) (V.seen view.new) result }
 {
     let digest = Sha256::digest(id);
     let mut level = Level::start(digest);
@@ -62,7 +62,7 @@ pub fn lookup<V: View>(
     requires size { volume.now.geometry.cells ≤ (V.seen view.old).cells }
     requires horizon { horizon ≤ volume.now.geometry.slots }
     requires bounds { AreBounds volume.now.geometry edge }
-    ensures { LooksUp volume.now.geometry horizon edge id.now (V.seen view.old) (V.seen view.new) result }
+    ensures { LooksUpSlot volume.now.geometry horizon edge id.now (V.seen view.old) (V.seen view.new) result }
 {
     let found = walk(view, volume, horizon, edge, id)?;
     match found {

@@ -7,7 +7,7 @@ use Rattle.cell_pool.specs.Grants.{TakesFront}
 use Rattle.cell_pool.specs.declared.pool.Pool.{Pool}
 use Rattle.jump_block.specs.declared.held_entry.Entry.{Entry}
 use Rattle.jump_insertion.specs.Inserting.{InsertsPosting}
-use Rattle.jump_insertion.specs.Readiness.{IsReady}
+use Rattle.jump_insertion.specs.Readiness.{IsReadyList}
 use Rattle.jump_insertion.proofs.Untouched.{nothing_touched, untouched_ready}
 
 -- so many of a row are inserted, and the pool has room for a block for each of the others
@@ -17,7 +17,7 @@ pub record RowSoFar (s : ViewState) (pool : Pool) (first count done : ℕ) : Typ
   pub next : 1100 ≤ pool.next
   pub room : 256 * (count - done) ≤ pool.end - pool.next
   pub free : (cell : ℕ) → pool.next ≤ cell → s.planned cell ≡ None
-  pub ready : IsTrue s.base.tells → IsReady s 36 580 pool.next (first + 256 * done)
+  pub ready : IsTrue s.base.tells → IsReadyList s 36 580 pool.next (first + 256 * done)
 
 pub row_begins : (s : ViewState) → IsView s → (pool : Pool) (first count : ℕ) → s.fresh ≡ 1100 → 1100 ≤ pool.next
     → 256 * count ≤ pool.end - pool.next → ((cell : ℕ) → s.planned cell ≡ None) → RowSoFar s pool first count 0

@@ -1,6 +1,6 @@
 //! Lists that grow over a device in memory.
 ghost use Rattle.std.specs.Prelude.{◌≡◌, ◌≤◌, ◌*◌, ◌-◌, ℕ, None, IfOk};
-ghost use Rattle.cell_pool.specs.Grants.{room_of};
+ghost use Rattle.cell_pool.specs.Grants.{free_cells};
 ghost use Rattle.worm_device.specs.Overlays.{of_overlay};
 ghost use Rattle.worm_memory.specs.Device.{memory_of};
 
@@ -80,7 +80,7 @@ fn insert_row<V: View>(
     requires count { count ≤ 1000 }
     requires fresh { (of_overlay V.seen overlay.old).fresh ≡ 1100 }
     requires next { 1100 ≤ pool.old.next }
-    requires room { 256 * count ≤ room_of pool.old }
+    requires room { 256 * count ≤ free_cells pool.old }
     requires nothing { (cell : ℕ) → (of_overlay V.seen overlay.old).planned cell ≡ None }
 {
     let mut last = None;

@@ -25,7 +25,7 @@ use Rattle.plan_writer.specs.CrashLaws.{CrashesLeaveWholeSlots, IsWholeOrUncommi
 use Rattle.plan_writer.specs.Planned.{INGEST_PHASES, PlansDocument, Suits, ingest_phases}
 use Rattle.plan_writer.specs.PuttingPlans.{PutsPlan}
 use Rattle.plan_writer.specs.declared.plan.Plan.{Plan}
-use Rattle.ingest_engine.specs.Ingesting.{ComesTo, CrashesLeaveSlots}
+use Rattle.ingest_engine.specs.Ingesting.{IngestComesTo, CrashesLeaveSlots}
 use Rattle.ingest_engine.proofs.UnusedSlots.{IsOwn, plan_apart, settle_apart, unused_after, unused_in, unused_whole}
 
 -- what could be left at a moment lies below what stood then
@@ -150,15 +150,15 @@ ready_layout old looked r g h tells volume =
 
 -- whatever an ingest has come to
 pub crashed : (id : List ℕ) (stamp : Option ℕ) (body : List ℕ) (old new : DeviceState) → CrashesLeaveWholeSlots
-    → Called old new → ComesTo id stamp body old new
+    → Called old new → IngestComesTo id stamp body old new
     → CrashesLeaveSlots id body old new
-crashed id stamp body old new law called (ComesTo.nothing same) tells still g n volume unused image left =
+crashed id stamp body old new law called (IngestComesTo.nothing same) tells still g n volume unused image left =
     unused_whole (unused_in (left_now old image (subst (λ (s : DeviceState). LeftSince s old.moment image) same left)) unused)
-crashed id stamp body old new law called (ComesTo.settling refusal s) tells still g n volume unused image left =
+crashed id stamp body old new law called (IngestComesTo.settling refusal s) tells still g n volume unused image left =
     unused_whole (settling_left g n old volume unused s tells still image left)
-crashed id stamp body old new law called (ComesTo.settled r h) tells still g n volume unused image left =
+crashed id stamp body old new law called (IngestComesTo.settled r h) tells still g n volume unused image left =
     unused_whole (looking_left g n old volume unused h tells still image left)
-crashed id stamp body old new law called (ComesTo.put looked r p h device less plan puts) tells still g n volume unused image left =
+crashed id stamp body old new law called (IngestComesTo.put looked r p h device less plan puts) tells still g n volume unused image left =
     let first : Called old looked = called_then h.settles.called h.looked in
     let layout = ready_layout old looked r g h tells volume in
     putting_left g n old volume unused h tells (still_first first.foreign_writes puts.called.foreign_writes still) law id body p new

@@ -17,12 +17,12 @@ use Rattle.recovery_engine.specs.Settling.{HasSettled, SettleEnds, Settles}
 use Rattle.recovery_engine.specs.declared.settling.Ready.{Ready}
 use Rattle.recovery_engine.proofs.Phasing.{false_true}
 use Rattle.plan_writer.specs.CrashLaws.{CrashesLeaveWholeSlots}
-use Rattle.plan_writer.specs.PuttingPlans.{PlanEnds, PutsPlan}
+use Rattle.plan_writer.specs.PuttingPlans.{PutPlanEnds, PutsPlan}
 use Rattle.plan_writer.specs.declared.plan.Plan.{Plan}
 use Rattle.ingest_plan.specs.declared.plan.PlannedIndex.{PlannedIndex}
 use Rattle.ingest_engine.specs.Indexing.{PlanForEnds, PlansFor}
 use Rattle.volume_meaning.specs.Slots.{IsStampFor}
-use Rattle.ingest_engine.specs.Ingesting.{ComesTo, IngestEnds, Ingests, IsPlanFor, PutUnfailed, RoomEnds, SlotsEnd, StampEnds, by_settling, need_with}
+use Rattle.ingest_engine.specs.Ingesting.{IngestComesTo, IngestEnds, Ingests, IsPlanFor, PutUnfailed, RoomEnds, SlotsEnd, CheckStampEnds, by_settling, need_with}
 use Rattle.ingest_engine.proofs.CrashedIngests.{crashed}
 use Rattle.ingest_engine.proofs.FullLogs.{has_no_slot, has_slot, last_free}
 use Rattle.ingest_engine.proofs.KeptNow.{is_ingested}
@@ -58,7 +58,7 @@ module _ (id : List ℕ) (stamp : Option ℕ) (body : List ℕ) (old new : Devic
   refused (WrongSize stated real) s ends = ends
   refused refusal s ends = absurd ends
 
-  no_such_stamp : (r : Ready) (refusal : Refusal) → HasSettled old new r → StampEnds r stamp (Err refusal)
+  no_such_stamp : (r : Ready) (refusal : Refusal) → HasSettled old new r → CheckStampEnds r stamp (Err refusal)
       → IngestEnds id stamp body old new (Err refusal)
   no_such_stamp r StampNeeded h ends = record { ready = r; settled = h; ends = ends }
   no_such_stamp r StampUnused h ends = record { ready = r; settled = h; ends = ends }
@@ -129,7 +129,7 @@ module _ (id : List ℕ) (stamp : Option ℕ) (body : List ℕ) (old new : Devic
   module _ (law : CrashesLeaveWholeSlots) where
     -- an ingest that has come so far, and ends in this way
     far : (result : Result ℕ Refusal) → (IsOk result → PutUnfailed old new) → Called old new
-        → ComesTo id stamp body old new → IngestEnds id stamp body old new result → Ingests id stamp body old new result
+        → IngestComesTo id stamp body old new → IngestEnds id stamp body old new result → Ingests id stamp body old new result
     far result unfailed called comes ends = record {
       called = called;
       unfailed = unfailed;
@@ -141,22 +141,22 @@ module _ (id : List ℕ) (stamp : Option ℕ) (body : List ℕ) (old new : Devic
     -- nothing was begun
     pub unbegun : new ≡ old → Ingests id stamp body old new (Err NoMemory)
     unbegun same = far (Err NoMemory) not_ok (subst (λ (s : DeviceState). Called old s) (sym same) (called_self old))
-        (ComesTo.nothing same) (inl same)
+        (IngestComesTo.nothing same) (inl same)
 
     -- settling was ended
     pub unsettled : (refusal : Refusal) → Settles old new (Err refusal) → Ingests id stamp body old new (Err refusal)
-    unsettled refusal s = far (Err refusal) not_ok s.called (ComesTo.settling refusal s) (refused refusal s s.ends)
+    unsettled refusal s = far (Err refusal) not_ok s.called (IngestComesTo.settling refusal s) (refused refusal s s.ends)
 
     -- the volume does not take such a stamp
-    pub stampless : (r : Ready) (refusal : Refusal) → Settles old new (Ok r) → StampEnds r stamp (Err refusal)
+    pub stampless : (r : Ready) (refusal : Refusal) → Settles old new (Ok r) → CheckStampEnds r stamp (Err refusal)
         → Ingests id stamp body old new (Err refusal)
-    stampless r refusal s ends = far (Err refusal) not_ok s.called (ComesTo.settled r (just_settled s))
+    stampless r refusal s ends = far (Err refusal) not_ok s.called (IngestComesTo.settled r (just_settled s))
         (no_such_stamp r refusal (just_settled s) ends)
 
     -- there was no slot
     pub slotless : (r : Ready) (refusal : Refusal) → Settles old new (Ok r) → IsStampFor r.volume.geometry stamp
         → SlotsEnd r (Err refusal) → Ingests id stamp body old new (Err refusal)
-    slotless r refusal s takes ends = far (Err refusal) not_ok s.called (ComesTo.settled r (just_settled s))
+    slotless r refusal s takes ends = far (Err refusal) not_ok s.called (IngestComesTo.settled r (just_settled s))
         (no_slot r refusal (just_settled s) takes ends)
 
     module _ (settled : DeviceState) (r : Ready) (s : Settles old settled (Ok r))
@@ -166,33 +166,33 @@ module _ (id : List ℕ) (stamp : Option ℕ) (body : List ℕ) (old new : Devic
       pub unplanned : (refusal : Refusal) → PlansFor r id stamp body settled new (Err refusal)
           → Ingests id stamp body old new (Err refusal)
       unplanned refusal plans = far (Err refusal) not_ok (called_then s.called plans.called)
-          (ComesTo.settled r (planned_behind s plans)) (unplanned_ends settled r s takes slot device refusal plans plans.ends)
+          (IngestComesTo.settled r (planned_behind s plans)) (unplanned_ends settled r s takes slot device refusal plans plans.ends)
 
       -- there was no room
       pub unroomed : (index : PlannedIndex) (need : ℕ) (refusal : Refusal) → need ≡ need_with id body index
           → PlansFor r id stamp body settled new (Ok index) → RoomEnds r need (Err refusal)
           → Ingests id stamp body old new (Err refusal)
       unroomed index need refusal same plans ends = far (Err refusal) not_ok (called_then s.called plans.called)
-          (ComesTo.settled r (planned_behind s plans))
+          (IngestComesTo.settled r (planned_behind s plans))
           (no_room settled r s takes slot device index refusal plans (subst (λ (n : ℕ). RoomEnds r n (Err refusal)) same ends))
 
   module _ (law : CrashesLeaveWholeSlots) (looked : DeviceState) (r : Ready) (p : Plan) (layout : IsLayout r.volume.geometry)
       (takes : IsStampFor r.volume.geometry stamp) (slot : r.horizon < r.volume.geometry.slots) (has : HasSettled old looked r) (device : IsDevice looked)
       (plan : IsPlanFor r id stamp body has.settled looked p) (puts : PutsPlan r.horizon p looked new) where
-    comes_to_put : ComesTo id stamp body old new
-    comes_to_put = ComesTo.put looked r p has device slot plan puts
+    comes_to_put : IngestComesTo id stamp body old new
+    comes_to_put = IngestComesTo.put looked r p has device slot plan puts
 
     called_all : Called old new
     called_all = called_then (called_then has.settles.called has.looked) puts.called
 
-    put_refused : (fault : Fault) → PlanEnds r.volume.geometry p r.horizon old looked new (Err fault)
+    put_refused : (fault : Fault) → PutPlanEnds r.volume.geometry p r.horizon old looked new (Err fault)
         → IngestEnds id stamp body old new (Err (refusal_of_fault fault))
     put_refused faults.Failed ends = ends
     put_refused (faults.Tampered e) ends = λ tells.
         named_by_plan layout takes slot has tells plan puts.called e (ends tells)
 
     -- and then the plan was not put
-    pub unput : (fault : Fault) → PlanEnds r.volume.geometry p r.horizon old looked new (Err fault)
+    pub unput : (fault : Fault) → PutPlanEnds r.volume.geometry p r.horizon old looked new (Err fault)
         → Ingests id stamp body old new (Err (refusal_of_fault fault))
     unput fault ends = far law (Err (refusal_of_fault fault)) not_ok called_all comes_to_put (put_refused fault ends)
 
@@ -203,7 +203,7 @@ module _ (id : List ℕ) (stamp : Option ℕ) (body : List ℕ) (old new : Devic
 
     -- or it was
     pub put : (n : ℕ) → new.faults ≡ looked.faults
-        → PlanEnds r.volume.geometry p r.horizon old looked new (Ok n) → Ingests id stamp body old new (Ok n)
+        → PutPlanEnds r.volume.geometry p r.horizon old looked new (Ok n) → Ingests id stamp body old new (Ok n)
     put n none ends = far law (Ok n)
         (λ okay. record { ready = r; looked = looked; settled = has; unfailed = none }) called_all comes_to_put (λ tells.
         is_ingested n layout has.settles.called tells (has.settles.ends.1 tells).volume puts.called plan (ends.1 tells)

@@ -9,7 +9,7 @@ use Rattle.volume_meaning.proofs.Extending.{written_on}
 use Rattle.worm_device.specs.State.{DeviceState}
 use Rattle.recovery_engine.specs.Settling.{HasSettled}
 use Rattle.recovery_engine.specs.declared.settling.Ready.{Ready}
-use Rattle.ingest_engine.specs.Ingesting.{HasNoSlot, HasSlot, IsLastFree}
+use Rattle.ingest_engine.specs.Ingesting.{HasNoSlot, HasFreeSlot, IsLastFree}
 
 -- a cell that is not written is blank
 blank_unless : (image : Image) (at : ℕ) (found : Option (List ℕ)) → image at ≡ found → (IsWritten image at → ⊥)
@@ -26,7 +26,7 @@ last_free {old} r has less tells =
     (λ (w : IsWritten old.image at). let full = (has.settles.ends.1 tells).full w in omega (arith, less, full))
 
 abbrev pub has_slot : {stamp : Option ℕ} {old new : DeviceState} (r : Ready) → HasSettled old new r
-    → IsStampFor r.volume.geometry stamp → r.horizon < r.volume.geometry.slots → HasSlot stamp old new r
+    → IsStampFor r.volume.geometry stamp → r.horizon < r.volume.geometry.slots → HasFreeSlot stamp old new r
 has_slot r has takes less =
     record { settled = has; takes = takes; slot = less; last_free = λ tells. last_free r has less tells }
 

@@ -19,14 +19,14 @@ use Rattle.recovery_engine.specs.Entries.{target_of}
 use Rattle.recovery_engine.specs.Settling.{HasSettled}
 use Rattle.recovery_engine.specs.declared.settling.Ready.{Ready}
 use Rattle.identifier_lookup.specs.Walks.{IsBlankIn}
-use Rattle.plan_writer.specs.Blank.{IsOfSlot}
+use Rattle.plan_writer.specs.Blank.{IsOfNewSlot}
 use Rattle.plan_writer.specs.Planned.{reserved_by}
 use Rattle.plan_writer.specs.PuttingPlans.{AsksForBlank, IsFoundByPlan, IsPlanRule}
 use Rattle.plan_writer.specs.declared.plan.Plan.{Plan}
 use Rattle.plan_writer.proofs.PutFrom.{called, ends_2, free_2, volume_2}
 use Rattle.ingest_plan.specs.Planning.{cut_at}
 use Rattle.ingest_engine.specs.Indexing.{IsFoundOnWay, IsPathRule}
-use Rattle.ingest_engine.specs.Ingesting.{HasSlot, IsInTheWay, IsLogRule, IsNamed, IsPlanFor, by_plan, in_index, need_with}
+use Rattle.ingest_engine.specs.Ingesting.{HasFreeSlot, IsInTheWay, IsLogRule, IsIngestEvidence, IsPlanFor, by_plan, in_index, need_with}
 use Rattle.ingest_engine.proofs.FullLogs.{has_slot}
 use Rattle.ingest_engine.proofs.Suited.{copies_of, entry}
 
@@ -53,7 +53,7 @@ module _ {old new : DeviceState} (r : Ready) (has : HasSettled old new r) (tells
     -- what was found on the way is named
     pub named_on_way : {id body : List ℕ} (e : Evidence)
         → IsFoundOnWay (IsPathRule r id body has.settled new) r has.settled new e
-        → IsNamed id stamp body old new e
+        → IsIngestEvidence id stamp body old new e
     named_on_way e found =
         in_index r (has_slot r has takes slot) found.rule (record {
           stands = found.stands;
@@ -136,8 +136,8 @@ module _ {id : List ℕ} {stamp : Option ℕ} {body : List ℕ} {old looked : De
     )
 
     -- a cell of the slot or of the plan's reservation
-    own : (cell : ℕ) → IsOfSlot r.horizon (reserved_by p) cell
-        → IsOfSlot r.horizon (record { start = r.edge; length = need_with id body plan.index }) cell
+    own : (cell : ℕ) → IsOfNewSlot r.horizon (reserved_by p) cell
+        → IsOfNewSlot r.horizon (record { start = r.edge; length = need_with id body plan.index }) cell
     own cell (inl log) = inl log
     own cell (inr within) = inr (record {
       from = omega (arith, within.from, plan.starts);
@@ -155,7 +155,7 @@ module _ {id : List ℕ} {stamp : Option ℕ} {body : List ℕ} {old looked : De
     -- what was found while the plan was put is named
     pub named_by_plan : {new : DeviceState} → Called looked new → (e : Evidence)
         → IsFoundByPlan r.horizon p old looked new e
-        → IsNamed id stamp body old new e
+        → IsIngestEvidence id stamp body old new e
     named_by_plan {new} later e found =
         let asks = λ (still : IsStill old.foreign_writes new.foreign_writes).
         asks_for_blank (still_first (called r has).foreign_writes later.foreign_writes still) in
@@ -179,7 +179,7 @@ module _ {id : List ℕ} {stamp : Option ℕ} {body : List ℕ} {old looked : De
 -- where nobody else wrote, all was only looked at since the volume was settled
 pub slot_still : {id : List ℕ} {stamp : Option ℕ} {body : List ℕ} {old new : DeviceState} {e : Evidence}
     (way : IsInTheWay id stamp body old new e)
-    → IsStill old.foreign_writes new.foreign_writes → HasSlot stamp old new way.ready
+    → IsStill old.foreign_writes new.foreign_writes → HasFreeSlot stamp old new way.ready
 slot_still way still =
     let has = way.slot.settled in
     record {

@@ -25,10 +25,10 @@ use Rattle.identifier_lookup.specs.Walks.{WalkFails}
 use Rattle.identifier_lookup.proofs.Licence.{names_licensed}
 use Rattle.recovery_engine.specs.declared.settling.Ready.{Ready}
 use Rattle.ingest_engine.specs.Indexing.{LooksPast, PastEnds, ReadsOnDevice}
-use Rattle.ingest_engine.specs.Stamps.{AddsStamp, AreUpTo, IsOneBelow, IsUpTo, PastLast, ReadsStamps, StampsEnd, StampsSoFar}
+use Rattle.ingest_engine.specs.Stamps.{AddsStamp, AreUpTo, IsOneBelow, IsStampUpTo, PastLast, ReadsStamps, GreatestStampEnds, StampsSoFar}
 
 -- what is up to one is up to another that this one is up to
-up_to_then : (first mid last : Option ℕ) → IsUpTo first mid → IsUpTo mid last → IsUpTo first last
+up_to_then : (first mid last : Option ℕ) → IsStampUpTo first mid → IsStampUpTo mid last → IsStampUpTo first last
 up_to_then None mid last p q = tt
 up_to_then (Some a) None last p q = absurd p
 up_to_then (Some a) (Some b) None p q = absurd q
@@ -71,7 +71,7 @@ look_fails g n {old} {new} viewed (faults.Tampered e) fails horizon edge =
     (fails.0, fails.1, λ tells. names_licensed g horizon edge n old new e viewed (fails.2 tells))
 
 module _ (g : Layout) (n : ℕ) (greatest : Option ℕ) where
-  up_to_self : (one : Option ℕ) → IsUpTo one one
+  up_to_self : (one : Option ℕ) → IsStampUpTo one one
   up_to_self None = tt
   up_to_self (Some s) = omega arith
 
@@ -100,8 +100,8 @@ module _ (g : Layout) (n : ℕ) (greatest : Option ℕ) where
   unasked viewed fault ends = record { viewed = viewed; ends = look_fails g n viewed fault ends }
 
   module _ {old mid new : ViewState} (part : Part) (first : Viewed old mid) (is : PartEnds g n old mid (Ok (Some part)))
-      (stamp last : Option ℕ) (reads : ReadsStamp n mid new (Ok stamp)) (up : IsUpTo greatest last)
-      (up' : IsUpTo stamp last) (either : (last ≡ greatest) ⊎ (last ≡ stamp)) where
+      (stamp last : Option ℕ) (reads : ReadsStamp n mid new (Ok stamp)) (up : IsStampUpTo greatest last)
+      (up' : IsStampUpTo stamp last) (either : (last ≡ greatest) ⊎ (last ≡ stamp)) where
     told : IsTrue old.base.tells → IsTrue mid.base.tells
     told tells = subst IsTrue (sym first.called.tells) tells
 
@@ -138,13 +138,13 @@ module _ (g : Layout) (n : ℕ) (greatest : Option ℕ) where
               let same : m ≡ n = omega (arith, from, below) in
               let here : HasStamp new.image n seconds =
               subst (λ (k : ℕ). HasStamp new.image k seconds) same (holds_on reads.viewed.image (holds_on first.image has)) in
-              subst (λ (s : Option ℕ). IsUpTo s last) (read_is stamp (reads.ends.1 (told tells)) seconds here) up',
+              subst (λ (s : Option ℕ). IsStampUpTo s last) (read_is stamp (reads.ends.1 (told tells)) seconds here) up',
           ⊎_elim inl (λ (other : last ≡ stamp). found_one tells last stamp other refl refl) either,
         ),
       );
     }
       where
-        none_up : (one last : Option ℕ) → last ≡ None → IsUpTo one last → last ≡ one
+        none_up : (one last : Option ℕ) → last ≡ None → IsStampUpTo one last → last ≡ one
         none_up None last is up = is
         none_up (Some s) None is up = absurd up
         none_up (Some s) (Some t) is up = absurd (none-some t (sym is))
@@ -216,7 +216,7 @@ module _ (g : Layout) (n : ℕ) where
 -- stamps that were read over a loan of the device are those of the device
 pub device_reads : (r : Ready) {entry new : DeviceState} {lent back : ℕ}
     → Viewed (seen_directly entry lent) (seen_directly new back) → (result : Result (Option ℕ) Fault)
-    → StampsEnd r.volume.geometry r.horizon (seen_directly entry lent) (seen_directly new back) result
+    → GreatestStampEnds r.volume.geometry r.horizon (seen_directly entry lent) (seen_directly new back) result
     → ReadsOnDevice r entry new result
 device_reads r {entry} {new} {lent} {back} viewed result ends = record {
   called = viewed.called;
@@ -225,8 +225,8 @@ device_reads r {entry} {new} {lent} {back} viewed result ends = record {
 }
   where
     by_any : (result : Result (Option ℕ) Fault)
-        → StampsEnd r.volume.geometry r.horizon (seen_directly entry lent) (seen_directly new back) result
-        → StampsEnd r.volume.geometry r.horizon (seen_directly entry 0) (seen_directly new 0) result
+        → GreatestStampEnds r.volume.geometry r.horizon (seen_directly entry lent) (seen_directly new back) result
+        → GreatestStampEnds r.volume.geometry r.horizon (seen_directly entry 0) (seen_directly new 0) result
     by_any (Ok last) h = h
     by_any (Err faults.Failed) h = h
     by_any (Err (faults.Tampered e)) h = λ horizon edge.
@@ -271,7 +271,7 @@ compared r given last {entry} {new} result reads past = record {
   ends = why result past;
 }
   where
-    below_given : (before : ℕ) (last : Option ℕ) → IsUpTo (Some before) last
+    below_given : (before : ℕ) (last : Option ℕ) → IsStampUpTo (Some before) last
         → ((seconds : ℕ) → last ≡ Some seconds → seconds < given) → before < given
     below_given before None up past = absurd up
     below_given before (Some seconds) up past = omega (arith, up, past seconds refl)

@@ -26,7 +26,7 @@ use Rattle.identifier_lookup.specs.declared.answers.Walk.TheVariants as walks
 use Rattle.ingest_plan.specs.Planning.{IsLater, PlanEnds, PlansIndex}
 use Rattle.tamper_rules.proofs.Images.{same_image}
 use Rattle.ingest_plan.specs.declared.plan.PlannedIndex.{PlannedIndex}
-use Rattle.ingest_engine.specs.Indexing.{EndsPath, IsPast, LooksPast, PastEnds, PathEnds, PlanForEnds, PlansFor, WalksDevice, WalksOn}
+use Rattle.ingest_engine.specs.Indexing.{SeeksPathEnd, IsStampPast, LooksPast, PastEnds, PathLookEnds, PlanForEnds, PlansFor, WalksDevice, WalksOn}
 use Rattle.ingest_engine.proofs.Trails.{has_trail_on, none_before}
 use Rattle.ingest_engine.specs.declared.indexing.PathEnd.{PathEnd}
 
@@ -52,7 +52,7 @@ quiet_then first second one two still = λ cell.
 
 -- a walk that was ended
 pub walk_failed : (r : Ready) (id : List ℕ) (entry new : DeviceState) (fault : Fault)
-    → WalksDevice r id entry new (Err fault) → EndsPath r id entry new (Err (refusal_of_fault fault))
+    → WalksDevice r id entry new (Err fault) → SeeksPathEnd r id entry new (Err (refusal_of_fault fault))
 walk_failed r id entry new faults.Failed walks = record {
   called = walks.called;
   quiet = walks.quiet;
@@ -108,14 +108,14 @@ module _ (r : Ready) (id : List ℕ) (entry mid new : DeviceState) (first : Call
     },
   )
 
-  pub path_since : (result : Result PathEnd Refusal) → EndsPath r id mid new result → EndsPath r id entry new result
+  pub path_since : (result : Result PathEnd Refusal) → SeeksPathEnd r id mid new result → SeeksPathEnd r id entry new result
   path_since result path = record {
     called = called_then first path.called;
     quiet = quiet_then first path.called quiet path.quiet;
     ends = why result path.ends;
   }
     where
-      why : (result : Result PathEnd Refusal) → PathEnds r id mid new result → PathEnds r id entry new result
+      why : (result : Result PathEnd Refusal) → PathLookEnds r id mid new result → PathLookEnds r id entry new result
       why (Ok end) h = walks_since (walks.End end.place end.level) h
       why (Err (Duplicate n)) h = walks_since (walks.Found n) h
       why (Err PathFull) h = walks_since walks.PathFull h
@@ -145,12 +145,12 @@ not_past r id stamp body entry new refusal looks =
 
 -- the path has no end, or was not walked
 pub path_refused : (r : Ready) (id : List ℕ) (stamp : Option ℕ) (body : List ℕ) (entry new : DeviceState)
-    (refusal : Refusal) → IsPast r stamp entry → EndsPath r id entry new (Err refusal)
+    (refusal : Refusal) → IsStampPast r stamp entry → SeeksPathEnd r id entry new (Err refusal)
     → PlansFor r id stamp body entry new (Err refusal)
 path_refused r id stamp body entry new refusal past path =
     record { called = path.called; quiet = path.quiet; ends = why refusal path.ends }
   where
-    why : (refusal : Refusal) → PathEnds r id entry new (Err refusal) → PlanForEnds r id stamp body entry new (Err refusal)
+    why : (refusal : Refusal) → PathLookEnds r id entry new (Err refusal) → PlanForEnds r id stamp body entry new (Err refusal)
     why (Duplicate n) h = (past, h)
     why PathFull h = (past, h)
     why DeviceFault h = h
@@ -160,7 +160,7 @@ path_refused r id stamp body entry new refusal past path =
     why refusal h = absurd h
 
 module _ (r : Ready) (id : List ℕ) (stamp : Option ℕ) (body : List ℕ) (entry walked new : DeviceState) (end : PathEnd)
-    (past : IsPast r stamp entry) (path : EndsPath r id entry walked (Ok end)) where
+    (past : IsStampPast r stamp entry) (path : SeeksPathEnd r id entry walked (Ok end)) where
   told : IsTrue entry.tells → IsTrue walked.tells
   told tells = subst IsTrue (sym path.called.tells) tells
 

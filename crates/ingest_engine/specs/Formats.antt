@@ -26,19 +26,19 @@ pub record IsLeastWritten (at : ℕ) (old new : DeviceState) : Type 0 where
   pub least : IsBlankBelow at old.image
 
 -- How a look for written cells may end, and why. Each cell is read.
-abbrev pub LookEnds : DeviceState → DeviceState → Result Unit Refusal → Type 0
-LookEnds old new (Ok _) =
+abbrev pub BlankLookEnds : DeviceState → DeviceState → Result Unit Refusal → Type 0
+BlankLookEnds old new (Ok _) =
     (IsTrue old.tells → IsBlankBelow old.cells old.image)
     × (new.faults ≡ old.faults) × (1 ≤ old.cells → Rose old.reads new.reads)
-LookEnds old new (Err DeviceFault) = Rose old.faults new.faults
-LookEnds old new (Err (NotBlank at)) = IsTrue old.tells → IsLeastWritten at old new
-LookEnds old new (Err refusal) = ⊥
+BlankLookEnds old new (Err DeviceFault) = Rose old.faults new.faults
+BlankLookEnds old new (Err (NotBlank at)) = IsTrue old.tells → IsLeastWritten at old new
+BlankLookEnds old new (Err refusal) = ⊥
 
 -- a look for written cells changes nothing
 pub record Looks (old new : DeviceState) (result : Result Unit Refusal) : Type 0 where
   pub called : Called old new
   pub only : IsStill old.foreign_writes new.foreign_writes → IsUnchanged old.image new.image
-  pub ends : LookEnds old new result
+  pub ends : BlankLookEnds old new result
 
 -- How formatting may end, and why: a layout that can't be is `TooSmall`, and a written cell `NotBlank`.
 abbrev pub FormatEnds : Layout → DeviceState → DeviceState → Result Unit Refusal → Type 0

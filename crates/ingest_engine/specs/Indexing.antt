@@ -23,7 +23,7 @@ use Rattle.identifier_lookup.specs.declared.answers.Walk.{Walk}
 use Rattle.identifier_lookup.specs.declared.answers.Walk.TheVariants as walks
 use Rattle.ingest_plan.specs.Planning.{IsGrowthRule, IsLater, IsPlanned}
 use Rattle.ingest_plan.specs.declared.plan.PlannedIndex.{PlannedIndex}
-use Rattle.ingest_engine.specs.Stamps.{AreUpTo, IsStampBelow, StampsEnd}
+use Rattle.ingest_engine.specs.Stamps.{AreUpTo, IsStampBelow, GreatestStampEnds}
 use Rattle.ingest_engine.specs.declared.indexing.PathEnd.{PathEnd}
 
 -- a walk along the identifier's path on the device answers so
@@ -47,8 +47,8 @@ pub record HasPathEnd (r : Ready) (id : List ℕ) (entry new : DeviceState) : Ty
   pub ends : HasWalked r id place level entry walked new
 
 -- the stamp that is given, if one is, is past those of the done slots below the horizon
-abbrev pub IsPast : Ready → Option ℕ → DeviceState → Type 0
-IsPast r stamp entry = IsTrue entry.tells → IsLater r.volume.geometry entry.image r.horizon stamp
+abbrev pub IsStampPast : Ready → Option ℕ → DeviceState → Type 0
+IsStampPast r stamp entry = IsTrue entry.tells → IsLater r.volume.geometry entry.image r.horizon stamp
 
 -- The stamp is not past the last one, which a done slot below the horizon has, and no such slot had a greater one.
 pub record IsTooEarly (r : Ready) (stamp : Option ℕ) (given last : ℕ) (entry new : DeviceState) : Type 0 where
@@ -80,29 +80,30 @@ pub record WalksDevice (r : Ready) (id : List ℕ) (entry new : DeviceState) (re
   pub ends : WalkEnds r.volume.geometry r.horizon r.edge id (seen_directly entry 0) (seen_directly new 0) result
 
 -- how a look for the path's end may end, and why
-abbrev pub PathEnds : Ready → List ℕ → DeviceState → DeviceState → Result PathEnd Refusal → Type 0
-PathEnds r id entry new (Ok end) = WalksOn r id entry new (walks.End end.place end.level)
-PathEnds r id entry new (Err (Duplicate n)) = WalksOn r id entry new (walks.Found n)
-PathEnds r id entry new (Err PathFull) = WalksOn r id entry new walks.PathFull
-PathEnds r id entry new (Err DeviceFault) = Rose entry.faults new.faults
-PathEnds r id entry new (Err (Tampered e)) = IsTrue entry.tells → IsFoundOnWay IsWalkRule r entry new e
-PathEnds r id entry new (Err refusal) = ⊥
+abbrev pub PathLookEnds : Ready → List ℕ → DeviceState → DeviceState → Result PathEnd Refusal → Type 0
+PathLookEnds r id entry new (Ok end) = WalksOn r id entry new (walks.End end.place end.level)
+PathLookEnds r id entry new (Err (Duplicate n)) = WalksOn r id entry new (walks.Found n)
+PathLookEnds r id entry new (Err PathFull) = WalksOn r id entry new walks.PathFull
+PathLookEnds r id entry new (Err DeviceFault) = Rose entry.faults new.faults
+PathLookEnds r id entry new (Err (Tampered e)) = IsTrue entry.tells → IsFoundOnWay IsWalkRule r entry new e
+PathLookEnds r id entry new (Err refusal) = ⊥
 
 -- such a look changes nothing
-pub record EndsPath (r : Ready) (id : List ℕ) (entry new : DeviceState) (result : Result PathEnd Refusal) : Type 0 where
+pub record SeeksPathEnd (r : Ready) (id : List ℕ) (entry new : DeviceState)
+    (result : Result PathEnd Refusal) : Type 0 where
   pub called : Called entry new
   pub quiet : IsStill entry.foreign_writes new.foreign_writes → IsUnchanged entry.image new.image
-  pub ends : PathEnds r id entry new result
+  pub ends : PathLookEnds r id entry new result
 
 -- what reading the stamps of the done slots below the horizon does: it changes nothing
 pub record ReadsOnDevice (r : Ready) (entry new : DeviceState) (result : Result (Option ℕ) Fault) : Type 0 where
   pub called : Called entry new
   pub quiet : IsStill entry.foreign_writes new.foreign_writes → IsUnchanged entry.image new.image
-  pub ends : StampsEnd r.volume.geometry r.horizon (seen_directly entry 0) (seen_directly new 0) result
+  pub ends : GreatestStampEnds r.volume.geometry r.horizon (seen_directly entry 0) (seen_directly new 0) result
 
 -- how a look whether the stamp is past the others may end, and why
 abbrev pub PastEnds : Ready → Option ℕ → DeviceState → DeviceState → Result Unit Refusal → Type 0
-PastEnds r stamp entry new (Ok u) = (new.faults ≡ entry.faults) × IsPast r stamp entry
+PastEnds r stamp entry new (Ok u) = (new.faults ≡ entry.faults) × IsStampPast r stamp entry
 PastEnds r stamp entry new (Err (StampTooEarly given last)) = IsTooEarly r stamp given last entry new
 PastEnds r stamp entry new (Err DeviceFault) = Rose entry.faults new.faults
 PastEnds r stamp entry new (Err (Tampered e)) = IsTrue entry.tells → IsFoundOnWay IsWalkRule r entry new e
@@ -118,7 +119,7 @@ pub record LooksPast (r : Ready) (stamp : Option ℕ) (entry new : DeviceState) 
 -- The index of the document is planned, with its bucket at the end of its identifier's path. Its stamp is past the others.
 pub record HasIndex (r : Ready) (id : List ℕ) (stamp : Option ℕ) (body : List ℕ) (index : PlannedIndex)
     (entry new : DeviceState) : Type 0 where
-  pub past : IsPast r stamp entry
+  pub past : IsStampPast r stamp entry
   pub walked : DeviceState
   pub place : Open
   pub level : Level
@@ -129,7 +130,7 @@ pub record HasIndex (r : Ready) (id : List ℕ) (stamp : Option ℕ) (body : Lis
 -- of the body.
 pub record HasTooMany (r : Ready) (id : List ℕ) (stamp : Option ℕ) (body : List ℕ) (list count : ℕ)
     (entry new : DeviceState) : Type 0 where
-  pub past : IsPast r stamp entry
+  pub past : IsStampPast r stamp entry
   pub place : Open
   pub level : Level
   pub path : WalksOn r id entry new (walks.End place level)
@@ -140,8 +141,9 @@ abbrev pub PlanForEnds
     : Ready → List ℕ → Option ℕ → List ℕ → DeviceState → DeviceState → Result PlannedIndex Refusal → Type 0
 PlanForEnds r id stamp body entry new (Ok index) = HasIndex r id stamp body index entry new
 PlanForEnds r id stamp body entry new (Err (StampTooEarly given last)) = IsTooEarly r stamp given last entry new
-PlanForEnds r id stamp body entry new (Err (Duplicate n)) = IsPast r stamp entry × WalksOn r id entry new (walks.Found n)
-PlanForEnds r id stamp body entry new (Err PathFull) = IsPast r stamp entry × WalksOn r id entry new walks.PathFull
+PlanForEnds r id stamp body entry new (Err (Duplicate n)) = IsStampPast r stamp entry
+    × WalksOn r id entry new (walks.Found n)
+PlanForEnds r id stamp body entry new (Err PathFull) = IsStampPast r stamp entry × WalksOn r id entry new walks.PathFull
 PlanForEnds r id stamp body entry new (Err (TooManyTerms list count)) = HasTooMany r id stamp body list count entry new
 PlanForEnds r id stamp body entry new (Err DeviceFault) = Rose entry.faults new.faults
 PlanForEnds r id stamp body entry new (Err (Tampered e)) =

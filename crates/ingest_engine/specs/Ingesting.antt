@@ -16,17 +16,17 @@ use Rattle.worm_device.specs.Counts.{Rose, IsStill}
 use Rattle.worm_device.specs.State.{DeviceState, IsDevice, LeftSince}
 use Rattle.commit_record.specs.Licences.{IsLicensed}
 use Rattle.document_store.specs.Looks.{HoldsIdentifier}
-use Rattle.recovery_engine.specs.Settling.{HasSettled, IsFound, IsSettlingRule, SettleEnds, Settles}
+use Rattle.recovery_engine.specs.Settling.{HasSettled, IsFoundBroken, IsSettlingRule, SettleEnds, Settles}
 use Rattle.recovery_engine.specs.declared.settling.Ready.{Ready}
-use Rattle.identifier_lookup.specs.Walks.{HasTrail, IsFirstOnPath, IsPassedWhole, NoneHasTrail}
-use Rattle.plan_writer.specs.Blank.{IsOfSlot}
+use Rattle.identifier_lookup.specs.Walks.{HasIdentifierTrail, IsFirstOnPath, IsPassedWhole, NoneHasTrail}
+use Rattle.plan_writer.specs.Blank.{IsOfNewSlot}
 use Rattle.plan_writer.specs.CrashLaws.{IsWholeOrUncommitted}
 use Rattle.plan_writer.specs.Planned.{PlansDocument, Suits}
 use Rattle.plan_writer.specs.PuttingPlans.{PutsPlan}
 use Rattle.plan_writer.specs.declared.plan.Plan.{Plan}
 use Rattle.ingest_plan.specs.Planning.{IsLater}
 use Rattle.ingest_plan.specs.declared.plan.PlannedIndex.{PlannedIndex}
-use Rattle.ingest_engine.specs.Indexing.{HasIndex, HasTooMany, IsPast, IsPathRule, IsTooEarly}
+use Rattle.ingest_engine.specs.Indexing.{HasIndex, HasTooMany, IsStampPast, IsPathRule, IsTooEarly}
 
 -- The plan is of this document, with this stamp, and of its index, which was planned after settling: it has the index's
 -- blocks, and copies of its cells are the journal.
@@ -42,17 +42,17 @@ pub record IsPlanFor (r : Ready) (id : List ℕ) (stamp : Option ℕ) (body : Li
   pub journal : p.journal.now ≡ index.journal.items
 
 -- How far an ingest has come, whatever it answers.
-pub data ComesTo (id : List ℕ) (stamp : Option ℕ) (body : List ℕ) (old new : DeviceState) : Type 0 where
+pub data IngestComesTo (id : List ℕ) (stamp : Option ℕ) (body : List ℕ) (old new : DeviceState) : Type 0 where
   -- nothing was done
-  nothing : new ≡ old → ComesTo id stamp body old new
+  nothing : new ≡ old → IngestComesTo id stamp body old new
   -- settling the volume was ended
-  settling : (refusal : Refusal) → Settles old new (Err refusal) → ComesTo id stamp body old new
+  settling : (refusal : Refusal) → Settles old new (Err refusal) → IngestComesTo id stamp body old new
   -- the volume was settled, and then looked at alone
-  settled : (r : Ready) → HasSettled old new r → ComesTo id stamp body old new
+  settled : (r : Ready) → HasSettled old new r → IngestComesTo id stamp body old new
   -- a slot was free, the document and its index were planned, and the plan was put into that slot
   put : (looked : DeviceState) (r : Ready) (p : Plan) (h : HasSettled old looked r) → IsDevice looked
       → r.horizon < r.volume.geometry.slots → IsPlanFor r id stamp body h.settled looked p → PutsPlan r.horizon p looked new
-      → ComesTo id stamp body old new
+      → IngestComesTo id stamp body old new
 
 -- the document in this slot
 abbrev pub document_in : ℕ → List ℕ → List ℕ → Document
@@ -91,18 +91,18 @@ pub record IsIngested (id : List ℕ) (stamp : Option ℕ) (body : List ℕ) (n 
   pub synced : Extends old.image new.sure
 
 -- how a look whether the volume takes such a stamp may end, and why
-abbrev pub StampEnds : Ready → Option ℕ → Result Unit Refusal → Type 0
-StampEnds r stamp (Ok u) = IsStampFor r.volume.geometry stamp
-StampEnds r stamp (Err StampNeeded) = (r.volume.geometry.version ≡ STAMPED_VERSION) × (stamp ≡ None)
-StampEnds r stamp (Err StampUnused) =
+abbrev pub CheckStampEnds : Ready → Option ℕ → Result Unit Refusal → Type 0
+CheckStampEnds r stamp (Ok u) = IsStampFor r.volume.geometry stamp
+CheckStampEnds r stamp (Err StampNeeded) = (r.volume.geometry.version ≡ STAMPED_VERSION) × (stamp ≡ None)
+CheckStampEnds r stamp (Err StampUnused) =
     (r.volume.geometry.version < STAMPED_VERSION) × ((seconds : ℕ) × (stamp ≡ Some seconds))
-StampEnds r stamp (Err refusal) = ⊥
+CheckStampEnds r stamp (Err refusal) = ⊥
 
 -- The volume was settled, and does not take such a stamp, by this refusal.
 pub record TakesNoSuchStamp (stamp : Option ℕ) (old new : DeviceState) (refusal : Refusal) : Type 0 where
   pub ready : Ready
   pub settled : HasSettled old new ready
-  pub ends : StampEnds ready stamp (Err refusal)
+  pub ends : CheckStampEnds ready stamp (Err refusal)
 
 -- how a look for a free slot of a settled volume may end, and why
 abbrev pub SlotsEnd : Ready → Result Unit Refusal → Type 0
@@ -119,7 +119,7 @@ RoomEnds r need (Err refusal) = ⊥
 
 -- The volume was settled, and then only looked at; it takes such a stamp, and had a free slot. So its last slot was free
 -- before.
-pub record HasSlot (stamp : Option ℕ) (old new : DeviceState) (r : Ready) : Type 0 where
+pub record HasFreeSlot (stamp : Option ℕ) (old new : DeviceState) (r : Ready) : Type 0 where
   pub settled : HasSettled old new r
   pub takes : IsStampFor r.volume.geometry stamp
   pub slot : r.horizon < r.volume.geometry.slots
@@ -136,26 +136,26 @@ pub record HasNoSlot (stamp : Option ℕ) (old new : DeviceState) : Type 0 where
 -- The volume was settled and had a free slot, but the stamp is not past the last one.
 pub record HasLaterStamp (stamp : Option ℕ) (given last : ℕ) (old new : DeviceState) : Type 0 where
   pub ready : Ready
-  pub settled : HasSlot stamp old new ready
+  pub settled : HasFreeSlot stamp old new ready
   pub early : IsTooEarly ready stamp given last settled.settled.settled new
 
 -- The volume was settled and had a free slot, the stamp is past the others, and slot n has a document with this
 -- identifier: the path leads to it, past none with the identifier. It is the only slot of such a document to which the
 -- index led before.
-pub record IsTaken (id : List ℕ) (stamp : Option ℕ) (n : ℕ) (old new : DeviceState) : Type 0 where
+pub record IsIdentifierTaken (id : List ℕ) (stamp : Option ℕ) (n : ℕ) (old new : DeviceState) : Type 0 where
   pub ready : Ready
-  pub settled : HasSlot stamp old new ready
-  pub past : IsPast ready stamp settled.settled.settled
+  pub settled : HasFreeSlot stamp old new ready
+  pub past : IsStampPast ready stamp settled.settled.settled
   pub holds : IsTrue old.tells → HoldsIdentifier ready.volume.geometry new.image n id
   pub first : IsTrue old.tells → IsFirstOnPath ready.volume.geometry new.cells new.image id n
-  pub alone : IsTrue old.tells → (m : ℕ) → HasTrail ready.volume.geometry old.cells old.image id m → m ≡ n
+  pub alone : IsTrue old.tells → (m : ℕ) → HasIdentifierTrail ready.volume.geometry old.cells old.image id m → m ≡ n
 
 -- The volume was settled and had a free slot, the stamp is past the others, and all 64 buckets of the identifier's path
 -- are written and passed. No document with the identifier had an index that led to it.
 pub record HasFullPath (id : List ℕ) (stamp : Option ℕ) (old new : DeviceState) : Type 0 where
   pub ready : Ready
-  pub settled : HasSlot stamp old new ready
-  pub past : IsPast ready stamp settled.settled.settled
+  pub settled : HasFreeSlot stamp old new ready
+  pub past : IsStampPast ready stamp settled.settled.settled
   pub passed : IsTrue old.tells → IsPassedWhole ready.volume.geometry new.cells new.image id
   pub fresh : IsTrue old.tells → NoneHasTrail ready.volume.geometry old.cells old.image id
 
@@ -164,7 +164,7 @@ pub record HasFullPath (id : List ℕ) (stamp : Option ℕ) (old new : DeviceSta
 pub record IsTooMany (id : List ℕ) (stamp : Option ℕ) (body : List ℕ) (list count : ℕ) (old new : DeviceState)
     : Type 0 where
   pub ready : Ready
-  pub settled : HasSlot stamp old new ready
+  pub settled : HasFreeSlot stamp old new ready
   pub fresh : IsTrue old.tells → NoneHasTrail ready.volume.geometry old.cells old.image id
   pub ends : HasTooMany ready id stamp body list count settled.settled.settled new
 
@@ -178,7 +178,7 @@ need_with id body index =
 pub record HasNoRoom (id : List ℕ) (stamp : Option ℕ) (body : List ℕ) (need free : ℕ) (old new : DeviceState)
     : Type 0 where
   pub ready : Ready
-  pub settled : HasSlot stamp old new ready
+  pub settled : HasFreeSlot stamp old new ready
   pub fresh : IsTrue old.tells → NoneHasTrail ready.volume.geometry old.cells old.image id
   pub index : PlannedIndex
   pub has : HasIndex ready id stamp body index settled.settled.settled new
@@ -200,25 +200,27 @@ IsLogRule number = IsSettlingRule number ⊎ (number ≡ STRAY_CELL)
 -- the command.
 pub record IsInTheWay (id : List ℕ) (stamp : Option ℕ) (body : List ℕ) (old new : DeviceState) (e : Evidence) : Type 0
   where
-    pub found : IsFound IsLogRule old new e
+    pub found : IsFoundBroken IsLogRule old new e
     pub ready : Ready
     pub looked : DeviceState
-    pub slot : HasSlot stamp old looked ready
+    pub slot : HasFreeSlot stamp old looked ready
     pub index : PlannedIndex
     pub has : HasIndex ready id stamp body index slot.settled.settled looked
     pub room : need_with id body index ≤ ready.volume.geometry.cells - ready.edge
-    pub own : IsOfSlot ready.horizon (record { start = ready.edge; length = need_with id body index }) e.cell
+    pub own : IsOfNewSlot ready.horizon (record { start = ready.edge; length = need_with id body index }) e.cell
     pub since : Called looked new
     pub unput : IsStill old.foreign_writes new.foreign_writes → IsUnchanged looked.image new.image
 
 -- How tampering is named: while the volume was settled; in the way of the plan; or on the way through the log for the
 -- stamps of its slots and through the index, where the volume was settled and had a free slot, and was only looked at.
-pub data IsNamed (id : List ℕ) (stamp : Option ℕ) (body : List ℕ) (old new : DeviceState) (e : Evidence) : Type 0 where
-  by_settling : Settles old new (Err (Tampered e)) → IsFound IsSettlingRule old new e
-      → IsNamed id stamp body old new e
-  by_plan : IsInTheWay id stamp body old new e → IsNamed id stamp body old new e
-  in_index : (ready : Ready) (slot : HasSlot stamp old new ready) → IsPathRule ready id body slot.settled.settled new e.rule
-      → IsLicensed old new e → IsNamed id stamp body old new e
+pub data IsIngestEvidence (id : List ℕ) (stamp : Option ℕ) (body : List ℕ) (old new : DeviceState)
+    (e : Evidence) : Type 0 where
+  by_settling : Settles old new (Err (Tampered e)) → IsFoundBroken IsSettlingRule old new e
+      → IsIngestEvidence id stamp body old new e
+  by_plan : IsInTheWay id stamp body old new e → IsIngestEvidence id stamp body old new e
+  in_index : (ready : Ready) (slot : HasFreeSlot stamp old new ready)
+      → IsPathRule ready id body slot.settled.settled new e.rule
+      → IsLicensed old new e → IsIngestEvidence id stamp body old new e
 
 -- how an ingest may end, and why
 abbrev pub IngestEnds : List ℕ → Option ℕ → List ℕ → DeviceState → DeviceState → Result ℕ Refusal → Type 0
@@ -227,9 +229,9 @@ IngestEnds id stamp body old new (Err StampNeeded) = TakesNoSuchStamp stamp old 
 IngestEnds id stamp body old new (Err StampUnused) = TakesNoSuchStamp stamp old new StampUnused
 IngestEnds id stamp body old new (Err (StampTooEarly given last)) = HasLaterStamp stamp given last old new
 IngestEnds id stamp body old new (Err DeviceFault) = Rose old.faults new.faults
-IngestEnds id stamp body old new (Err (Tampered e)) = IsTrue old.tells → IsNamed id stamp body old new e
+IngestEnds id stamp body old new (Err (Tampered e)) = IsTrue old.tells → IsIngestEvidence id stamp body old new e
 IngestEnds id stamp body old new (Err SlotsFull) = HasNoSlot stamp old new
-IngestEnds id stamp body old new (Err (Duplicate n)) = IsTaken id stamp n old new
+IngestEnds id stamp body old new (Err (Duplicate n)) = IsIdentifierTaken id stamp n old new
 IngestEnds id stamp body old new (Err PathFull) = HasFullPath id stamp old new
 IngestEnds id stamp body old new (Err (TooManyTerms list count)) = IsTooMany id stamp body list count old new
 IngestEnds id stamp body old new (Err (Full need free)) = HasNoRoom id stamp body need free old new
@@ -261,6 +263,6 @@ pub record Ingests (id : List ℕ) (stamp : Option ℕ) (body : List ℕ) (old n
     : Type 0 where
   pub called : Called old new
   pub unfailed : IsOk result → PutUnfailed old new
-  pub comes : ComesTo id stamp body old new
+  pub comes : IngestComesTo id stamp body old new
   pub crashes : CrashesLeaveSlots id body old new
   pub ends : IngestEnds id stamp body old new result

@@ -22,15 +22,16 @@ IsOneBelow g image n None = ⊤
 IsOneBelow g image n (Some seconds) = IsStampBelow g image n seconds
 
 -- the first is at most the last, if there is a first
-abbrev pub IsUpTo : Option ℕ → Option ℕ → Type 0
-IsUpTo None last = ⊤
-IsUpTo (Some first) None = ⊥
-IsUpTo (Some first) (Some last) = first ≤ last
+abbrev pub IsStampUpTo : Option ℕ → Option ℕ → Type 0
+IsStampUpTo None last = ⊤
+IsStampUpTo (Some first) None = ⊥
+IsStampUpTo (Some first) (Some last) = first ≤ last
 
 -- each done slot from one on, and below n, has a stamp of at most so many seconds; where that is none, there is no such slot
 abbrev pub AreUpTo : Layout → Image → ℕ → ℕ → Option ℕ → Type 0
 AreUpTo g image from n last =
-    (m seconds : ℕ) → from ≤ m → m < n → IsDoneSlot g image m → HasStamp image m seconds → IsUpTo (Some seconds) last
+    (m seconds : ℕ) → from ≤ m → m < n → IsDoneSlot g image m → HasStamp image m seconds
+    → IsStampUpTo (Some seconds) last
 
 -- of the stamps of the done slots below n this is the greatest
 pub record IsGreatestStamp (g : Layout) (image : Image) (n seconds : ℕ) : Type 0 where
@@ -45,28 +46,28 @@ GreatestStampsAreOne =
 
 -- How reading the stamps of the done slots below n may end, and why. The greatest is told: one of them has it, and none had
 -- a greater one.
-abbrev pub StampsEnd : Layout → ℕ → ViewState → ViewState → Result (Option ℕ) Fault → Type 0
-StampsEnd g n old new (Ok last) =
+abbrev pub GreatestStampEnds : Layout → ℕ → ViewState → ViewState → Result (Option ℕ) Fault → Type 0
+GreatestStampEnds g n old new (Ok last) =
     (new.base.faults ≡ old.base.faults)
     × (IsTrue old.base.tells → AreUpTo g old.image 0 n last × IsOneBelow g new.image n last)
-StampsEnd g n old new (Err fault) = (horizon edge : ℕ) → WalkFails g horizon edge old new fault
+GreatestStampEnds g n old new (Err fault) = (horizon edge : ℕ) → WalkFails g horizon edge old new fault
 
 pub record ReadsStamps (g : Layout) (n : ℕ) (old new : ViewState) (result : Result (Option ℕ) Fault) : Type 0 where
   pub viewed : Viewed old new
-  pub ends : StampsEnd g n old new result
+  pub ends : GreatestStampEnds g n old new result
 
 -- how reading one more, that of slot n, may end
-abbrev pub AddEnds : Layout → ℕ → Option ℕ → ViewState → ViewState → Result (Option ℕ) Fault → Type 0
-AddEnds g n greatest old new (Ok last) =
-    (new.base.faults ≡ old.base.faults) × IsUpTo greatest last
+abbrev pub AddStampEnds : Layout → ℕ → Option ℕ → ViewState → ViewState → Result (Option ℕ) Fault → Type 0
+AddStampEnds g n greatest old new (Ok last) =
+    (new.base.faults ≡ old.base.faults) × IsStampUpTo greatest last
     × (IsTrue old.base.tells → AreUpTo g old.image n (n + 1) last
     × ((last ≡ greatest) ⊎ ((seconds : ℕ) × (last ≡ Some seconds) × IsDoneSlot g new.image n × HasStamp new.image n seconds)))
-AddEnds g n greatest old new (Err fault) = (horizon edge : ℕ) → WalkFails g horizon edge old new fault
+AddStampEnds g n greatest old new (Err fault) = (horizon edge : ℕ) → WalkFails g horizon edge old new fault
 
 pub record AddsStamp (g : Layout) (n : ℕ) (greatest : Option ℕ) (old new : ViewState) (result : Result (Option ℕ) Fault)
     : Type 0 where
   pub viewed : Viewed old new
-  pub ends : AddEnds g n greatest old new result
+  pub ends : AddStampEnds g n greatest old new result
 
 -- the stamps of the done slots from one on, and below n, were read
 pub record StampsSoFar (g : Layout) (from n : ℕ) (greatest : Option ℕ) (old now : ViewState) : Type 0 where

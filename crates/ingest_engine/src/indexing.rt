@@ -1,10 +1,10 @@
 //! The index of a document, planned on a settled volume.
 ghost use Rattle.std.specs.Prelude.{◌<◌, ◌≤◌};
 ghost use Rattle.recovery_engine.specs.Settling.{LiesInBounds};
-ghost use Rattle.ingest_engine.specs.Indexing.{EndsPath, PlansFor, WalksDevice};
+ghost use Rattle.ingest_engine.specs.Indexing.{SeeksPathEnd, PlansFor, WalksDevice};
 ghost use Rattle.term_tags.specs.Listing.{MayHaveStamp};
 
-use crate::stamps::look_past;
+use crate::stamps::check_later;
 use cell_types::{Fault, Refusal};
 use hash_tree::{Level, Open};
 use identifier_lookup::{Walk, walk};
@@ -40,7 +40,7 @@ pub fn plan_for<D: Device>(
     requires free { ready.now.horizon < ready.now.volume.geometry.slots }
     ensures { PlansFor ready.now id.now stamp body.now (D.state device.old) (D.state device.new) result }
 {
-    look_past(device, ready, stamp)?;
+    check_later(device, ready, stamp)?;
     let end = path_end(device, ready, id)?;
     let index = plan_index(
         alloc,
@@ -59,7 +59,7 @@ pub fn plan_for<D: Device>(
 /// Where the path of the identifier ends. A slot that it leads to has a document with the identifier.
 fn path_end<D: Device>(device: &mut D, ready: &Ready, id: &[u8]) -> Result<PathEnd, Refusal>
     requires bounds { LiesInBounds (D.state device.old) ready.now }
-    ensures { EndsPath ready.now id.now (D.state device.old) (D.state device.new) result }
+    ensures { SeeksPathEnd ready.now id.now (D.state device.old) (D.state device.new) result }
 {
     match walk_on_device(device, ready, id)? {
         Walk::Found(slot) => Err(Refusal::Duplicate(slot)),

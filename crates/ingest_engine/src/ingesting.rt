@@ -1,7 +1,7 @@
 //! A document, stored in a free slot with its index.
 ghost use Rattle.std.specs.Prelude.{◌≡◌, ◌≤◌};
 ghost use Rattle.volume_meaning.specs.Documents.{IsBody, IsIdentifier};
-ghost use Rattle.ingest_engine.specs.Ingesting.{Ingests, RoomEnds, SlotsEnd, StampEnds};
+ghost use Rattle.ingest_engine.specs.Ingesting.{Ingests, RoomEnds, SlotsEnd, CheckStampEnds};
 
 use crate::document::StoredDocument;
 use crate::indexing::plan_for;
@@ -59,7 +59,7 @@ pub fn ingest<D: Device>(
 
 /// That a stamp is given exactly where documents are stamped.
 fn check_stamp(ready: &Ready, stamp: Option<u32>) -> Result<(), Refusal>
-    ensures { StampEnds ready.now stamp result }
+    ensures { CheckStampEnds ready.now stamp result }
 {
     let is_stamped = ready.volume.geometry.version() == STAMPED_VERSION;
     if is_stamped && stamp.is_none() {

@@ -2,7 +2,7 @@
 ghost use Rattle.std.specs.Prelude.{◌≡◌, ◌<◌, ◌≤◌, ◌⊎◌};
 ghost use Rattle.recovery_engine.specs.Settling.{LiesInBounds};
 ghost use Rattle.ingest_engine.specs.Indexing.{LooksPast, ReadsOnDevice};
-ghost use Rattle.ingest_engine.specs.Stamps.{AddsStamp, IsUpTo, PastLast, ReadsStamps};
+ghost use Rattle.ingest_engine.specs.Stamps.{AddsStamp, IsStampUpTo, PastLast, ReadsStamps};
 
 use cell_types::{Fault, Refusal, Volume};
 use commit_record::stamp_of;
@@ -17,7 +17,7 @@ use worm_device::{Device, Direct, View};
 ///
 /// `StampTooEarly` with the greatest stamp of a done slot; `Tampered` where the cells of a slot are no state;
 /// `DeviceFault`.
-pub fn look_past<D: Device>(
+pub fn check_later<D: Device>(
     device: &mut D,
     ready: &Ready,
     stamp: Option<u32>,
@@ -74,8 +74,8 @@ fn with_slot<V: View>(
 
 /// The later one of two stamps.
 fn later_of(one: Option<u32>, other: Option<u32>) -> Option<u32>
-    ensures first { IsUpTo one result }
-    ensures second { IsUpTo other result }
+    ensures first { IsStampUpTo one result }
+    ensures second { IsStampUpTo other result }
     ensures either { (result ≡ one) ⊎ (result ≡ other) }
 {
     let Some(first) = one else {

@@ -7,9 +7,9 @@ use Rattle.cell_types.specs.Layout.{Layout, reserve_at, outcome_at, done_at, spa
 use Rattle.cell_types.specs.declared.record_cell.RecordCell.{RecordCell}
 use Rattle.cell_types.specs.declared.record_cell.RecordCell.TheVariants.{Reserve, Commit, Abandon}
 use Rattle.volume_meaning.specs.Documents.{Stands, stored_bytes, document_at}
-use Rattle.ingest_laws.specs.Filling.{blocks_end, IsCopy, IsPlannedCopy, IsFilled}
+use Rattle.ingest_laws.specs.Filling.{blocks_end, IsCopyInPlan, IsPlannedCopy, IsFilled}
 use Rattle.ingest_laws.specs.Ingesting.{Plan, Phase, Reserving, Storing, Committing, Applying, Finishing, stored_of, ContentRow, CopyRow, StoredRow, StampRow, AppliedRow, Row, AnyRow}
-use Rattle.tamper_rules.specs.Journals.{journal_at, Copies, IsIndexCell, of_list, of_root, of_slot, IsInOrder, IsNamed}
+use Rattle.tamper_rules.specs.Journals.{journal_at, CopiesIndexCell, IsIndexCell, of_list, of_root, of_slot, IsInOrder, IsNamed}
 use Rattle.tamper_rules.specs.Rules
 use Rattle.tamper_rules.specs.Rules.{ReserveRule, OutcomeRule, DoneRule, DocumentRule, HasDocument, JournalRule, RedoneRule, BlankRule, IsTrueStamp, IsDoneIndexCell, HasJump, HasChild, IsSize, Tile, TilingRule}
 use Rattle.volume_meaning.specs.Slots.{cells_for, Reserves, Commits, Stores, IsAbandonedSlot, IsDoneSlot, IsDone, HasEnded, IsHorizon, EndsBelow, IsEdge}
@@ -38,11 +38,11 @@ module _ {g : Layout} {old new : Image} {p : Plan} (u : IsFilled g old new p) wh
 
   -- the journal of the plan
   pub applied_entry : {cell : ℕ} {value : List ℕ} → (row : AppliedRow p cell value)
-      → IsCopy p row.place cell row.copied
+      → IsCopyInPlan p row.place cell row.copied
   applied_entry {cell} {value} row = record { value = value; entry = row.entry; index = row.index; address = row.address; is = row.is }
 
-  pub entry_copies : {place target : ℕ} {r : RecordCell} → IsCopy p place target r
-      → Copies new p.start p.reserved (length p.journal) place target r
+  pub entry_copies : {place target : ℕ} {r : RecordCell} → IsCopyInPlan p place target r
+      → CopiesIndexCell new p.start p.reserved (length p.journal) place target r
   entry_copies {place} {target} {r} e = record {
     below = slice_get_within p.journal place e.value e.entry;
     entry = e.value;
@@ -54,7 +54,7 @@ module _ {g : Layout} {old new : Image} {p : Plan} (u : IsFilled g old new p) wh
 
   -- what a place copies is applied
   copies_applied : {place target : ℕ} {r : RecordCell}
-      → (c : Copies new p.start p.reserved (length p.journal) place target r) → AppliedRow p target c.entry
+      → (c : CopiesIndexCell new p.start p.reserved (length p.journal) place target r) → AppliedRow p target c.entry
   copies_applied {place} {target} {r} c =
       let found = slice_get-get_or p.journal place [] c.below in
       let there = u.rows.adds (journal_at p.start p.reserved (length p.journal) + place) _ (Storing, inl (inr (record { place = place; entry = found; at = refl }))) in
@@ -195,7 +195,7 @@ module _ {g : Layout} {old new : Image} {p : Plan} (u : IsFilled g old new p) wh
     target = o.target;
     copied = o.copied;
     copies = copies_on keeps o.copies;
-    rises = ⊎_elim inl (λ (h : (before : ℕ) × (lower : ℕ) × (other : RecordCell) × (place ≡ before + 1) × Copies old from reserved journal before lower other × (lower < o.target)).
+    rises = ⊎_elim inl (λ (h : (before : ℕ) × (lower : ℕ) × (other : RecordCell) × (place ≡ before + 1) × CopiesIndexCell old from reserved journal before lower other × (lower < o.target)).
         inr (h.0, h.1, h.2, h.3, copies_on keeps h.4, h.5)) o.rises;
     before_document = o.before_document;
     index = index_on' o.index;
@@ -327,7 +327,7 @@ module _ {g : Layout} {old new : Image} {p : Plan} (u : IsFilled g old new p) wh
 
   copies_was : {m from reserved bytes journal place target : ℕ} {r : RecordCell}
       → Stores g old m from reserved bytes journal
-      → Copies new from reserved journal place target r → Copies old from reserved journal place target r
+      → CopiesIndexCell new from reserved journal place target r → CopiesIndexCell old from reserved journal place target r
   copies_was {m} {from} {reserved} {bytes} {journal} {place} b c = copies_back keeps (old_entry b place c.below) c
 
   planned_order : (place : ℕ) → place < length p.journal
@@ -338,7 +338,7 @@ module _ {g : Layout} {old new : Image} {p : Plan} (u : IsFilled g old new p) wh
         target = q.target;
         copied = q.copied;
         copies = entry_copies q.entry;
-        rises = ⊎_elim inl (λ (h : (before : ℕ) × (lower : ℕ) × (other : RecordCell) × (place ≡ before + 1) × IsCopy p before lower other × (lower < q.target)).
+        rises = ⊎_elim inl (λ (h : (before : ℕ) × (lower : ℕ) × (other : RecordCell) × (place ≡ before + 1) × IsCopyInPlan p before lower other × (lower < q.target)).
             inr (h.0, h.1, h.2, h.3, entry_copies h.4, h.5)) q.rises;
         before_document = q.before_document;
         index = ⊎_elim index_on'
@@ -378,7 +378,7 @@ module _ {g : Layout} {old new : Image} {p : Plan} (u : IsFilled g old new p) wh
   pub rule_6 : (cell : ℕ) → IsWritten new cell → RedoneRule g new cell
   rule_6 cell w = record {
     done = λ m from reserved bytes journal place target copied d k at. ⊎_elim
-        (λ same. by_plan (λ m from reserved bytes journal. Copies new from reserved journal place target copied → new target ≡ new (journal_at from reserved journal + place))
+        (λ same. by_plan (λ m from reserved bytes journal. CopiesIndexCell new from reserved journal place target copied → new target ≡ new (journal_at from reserved journal + place))
         d.commits same (λ c. u.rows.adds target c.entry (Applying, copies_applied c) ∙ sym c.stands) k ∙ sym (ap new at))
         (λ other.
         let b = done_back other d in

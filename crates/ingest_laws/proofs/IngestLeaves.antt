@@ -8,7 +8,7 @@ use Rattle.cell_types.specs.declared.record_cell.RecordCell.{RecordCell}
 use Rattle.cell_types.specs.declared.record_cell.RecordCell.TheVariants.{Abandon}
 use Rattle.volume_meaning.specs.Documents.{Document, AreDocuments}
 use Rattle.ingest_laws.specs.Ingesting.{Plan, Phase, Reserving, Storing, Committing, Applying, Finishing, order_of, stored_of, StampRow, Row, AnyRow, IsInPhases, IsIngest, LeavesSound}
-use Rattle.tamper_rules.specs.Journals.{journal_at, Copies, IsIndexCell, of_list, of_root, of_slot, IsInOrder}
+use Rattle.tamper_rules.specs.Journals.{journal_at, CopiesIndexCell, IsIndexCell, of_list, of_root, of_slot, IsInOrder}
 use Rattle.tamper_rules.specs.Rules
 use Rattle.tamper_rules.specs.Rules.{BlankRule, IsTrueStamp}
 use Rattle.tamper_rules.specs.Settling.{Settled, IsOneHorizon, JournalRow, DoneRow, After, nothing, abandoned, completed, of_after}
@@ -277,8 +277,8 @@ module _ {g : Layout} {old new image : Image} {p : Plan} (i : IsIngest g old new
     }
 
     copies_here : {place target : ℕ} {r : RecordCell}
-        → Copies new p.start p.reserved (length p.journal) place target r
-        → Copies image p.start p.reserved (length p.journal) place target r
+        → CopiesIndexCell new p.start p.reserved (length p.journal) place target r
+        → CopiesIndexCell image p.start p.reserved (length p.journal) place target r
     copies_here {place} c =
         let entry = slice_get-get_or p.journal place [] c.below in
         copies_back f (record { found = _; stands = stored (journal_at p.start p.reserved (length p.journal) + place) _ (inl (inr (record { place = place; entry = entry; at = refl }))) }) c
@@ -310,7 +310,7 @@ module _ {g : Layout} {old new image : Image} {p : Plan} (i : IsIngest g old new
             target = o.target;
             copied = o.copied;
             copies = copies_here o.copies;
-            rises = ⊎_elim inl (λ (h : (before : ℕ) × (lower : ℕ) × (other : RecordCell) × (place ≡ before + 1) × Copies new p.start p.reserved (length p.journal) before lower other × (lower < o.target)).
+            rises = ⊎_elim inl (λ (h : (before : ℕ) × (lower : ℕ) × (other : RecordCell) × (place ≡ before + 1) × CopiesIndexCell new p.start p.reserved (length p.journal) before lower other × (lower < o.target)).
                 inr (h.0, h.1, h.2, h.3, copies_here h.4, h.5)) o.rises;
             before_document = o.before_document;
             index = index_here o.index;

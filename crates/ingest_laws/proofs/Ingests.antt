@@ -6,7 +6,7 @@ use Rattle.cell_types.specs.Layout.{Layout, reserve_at, outcome_at, done_at, spa
 use Rattle.cell_types.specs.declared.record_cell.RecordCell.{RecordCell}
 use Rattle.cell_types.specs.declared.record_cell.RecordCell.TheVariants.{Reserve, Commit, Abandon}
 use Rattle.ingest_laws.specs.Ingesting.{Plan, Phase, Reserving, Storing, Committing, Applying, Finishing, stored_of, ContentRow, CopyRow, StoredRow, StampRow, AppliedRow, Row, AnyRow, IsIngest}
-use Rattle.tamper_rules.specs.Journals.{journal_at, Copies, IsInOrder}
+use Rattle.tamper_rules.specs.Journals.{journal_at, CopiesIndexCell, IsInOrder}
 use Rattle.tamper_rules.specs.Rules
 use Rattle.tamper_rules.specs.Rules.{ReserveRule, OutcomeRule, DoneRule, JournalRule, RedoneRule}
 use Rattle.volume_meaning.specs.Slots.{cells_for, Reserves, Commits, Stores, IsDone, IsHorizon, EndsBelow}
@@ -73,7 +73,7 @@ module _ {g : Layout} {old new : Image} {p : Plan} (i : IsIngest g old new p) wh
 
   -- a cell that a journal cell names holds the same
   pub redone : (place target : ℕ) (copied : RecordCell) (value : List ℕ)
-      → Copies new p.start p.reserved (length p.journal) place target copied
+      → CopiesIndexCell new p.start p.reserved (length p.journal) place target copied
       → new (journal_at p.start p.reserved (length p.journal) + place) ≡ Some value → new target ≡ Some value
   redone place target copied value c is =
       let r : RedoneRule g new (journal_at p.start p.reserved (length p.journal) + place) =
@@ -82,7 +82,7 @@ module _ {g : Layout} {old new : Image} {p : Plan} (i : IsIngest g old new p) wh
 
   -- what is applied is copied in the journal, and lies behind the log
   pub applied_copies : {cell : ℕ} {value : List ℕ} → (row : AppliedRow p cell value)
-      → Copies new p.start p.reserved (length p.journal) row.place cell row.copied
+      → CopiesIndexCell new p.start p.reserved (length p.journal) row.place cell row.copied
   applied_copies {cell} {value} row = record {
     below = slice_get_within p.journal row.place value row.entry;
     entry = value;

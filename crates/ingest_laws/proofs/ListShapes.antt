@@ -5,7 +5,7 @@ use Rattle.cell_types.specs.Image.{Image, Extends}
 use Rattle.cell_types.specs.declared.record_cell.RecordCell.{RecordCell}
 use Rattle.cell_types.specs.declared.record_cell.RecordCell.TheVariants.{Jump}
 use Rattle.volume_meaning.specs.Blocks.{PostingFields, posting_record, InFront, IsFull, InSpan, pointer_at, Leads, arrived, onwards}
-use Rattle.ingest_laws.specs.ListShapes.{PointsWell, IsWellListed, Adds, IsNewBlock}
+use Rattle.ingest_laws.specs.ListShapes.{PointsWell, IsWellListed, AddsOneCell, IsNewBlock}
 use Rattle.volume_meaning.specs.Nodes.{AreApart}
 use Rattle.tamper_rules.specs.Rules.{HoldsInOrder}
 use Rattle.volume_meaning.specs.Volumes.{Holds, IsWritten}
@@ -42,7 +42,7 @@ points_on e w = record {
   in_span = w.in_span;
 }
 
-pub adds_extends : {old new : Image} {at : ℕ} → Adds at old new → Extends old new
+pub adds_extends : {old new : Image} {at : ℕ} → AddsOneCell at old new → Extends old new
 adds_extends {old} {new} {at} a = record {
   keeps = λ cell value is. ⊎_elim
       (λ same. absurd (none-some _ (sym a.was ∙ ap old (sym same) ∙ is)))
@@ -131,7 +131,7 @@ same_cell {image} {from} {to} {head} {a} {b} {i} {j} w x y li lj is = ⊎_elim
 
 -- with one posting more
 module _ {old new : Image} {from to head block place : ℕ} {p : PostingFields} (w : IsWellListed old from to head) (b : Leads old from to block head) (below : place < 128)
-    (a : Adds (block + place) old new) (holds : Holds new (block + place) (posting_record p))
+    (a : AddsOneCell (block + place) old new) (holds : Holds new (block + place) (posting_record p))
     (rises : (place ≡ 0) ⊎ ((before : ℕ) × (q : PostingFields) × (place ≡ before + 1) × Holds old (block + before) (posting_record q) × (q.key < p.key))) where
   far_cell : {other i : ℕ} → Leads old from to other head → 128 ≤ i → i < 256 → new (other + i) ≡ old (other + i)
   far_cell {other} {i} there low high = a.others (other + i) (λ same. let h = same_cell w there b high (omega arith) same in omega (arith, h.1))
@@ -173,7 +173,7 @@ module _ {old new : Image} {from to head block place : ℕ} {p : PostingFields} 
 -- with one pointer more
 module _ {old new : Image} {from to head block level digit target place : ℕ} {greatest some : PostingFields} (w : IsWellListed old from to head) (b : Leads old from to block head)
     (levels : level < 8) (low : 1 ≤ digit) (high : digit ≤ 15)
-    (a : Adds (pointer_at block level digit) old new) (jump : Holds new (pointer_at block level digit) (Jump target))
+    (a : AddsOneCell (pointer_at block level digit) old new) (jump : Holds new (pointer_at block level digit) (Jump target))
     (full : IsFull old block greatest) (inside_from : from ≤ target) (inside_to : target + 256 ≤ to)
     (below : place < 128) (front : InFront old target place some) (span : InSpan greatest.key level digit some.key) where
   pointer_place : 127 + 15 * level + digit < 256

@@ -21,7 +21,7 @@ use Rattle.tamper_rules.proofs.GivenUp.{jumps}
 use Rattle.tamper_rules.proofs.Images.{same_image}
 use Rattle.tamper_rules.proofs.Settled.{one_edge}
 use Rattle.tamper_rules.proofs.Writing.{same_or_not}
-use Rattle.ingest_laws.specs.ListShapes.{Adds}
+use Rattle.ingest_laws.specs.ListShapes.{AddsOneCell}
 use Rattle.ingest_laws.specs.Needs.{AddsBoth, BucketCosts, EndsAtPointer, IsBlankEntry, IsTail, LeadsOn, NeedIsOne, PostingCosts, PostingsCost, WalksTo, arrived, in_block, in_bucket, in_new_block, in_new_node, in_tail, none, one, onwards}
 use Rattle.ingest_laws.proofs.TrailEnds.{of_end, one_end}
 
@@ -30,7 +30,7 @@ held_same : {old new : Image} {at : ℕ} {r : RecordCell} → Holds old at r →
 held_same h k = h.stands ∙ ap Some (h.is.same ∙ sym k.is.same) ∙ sym k.stands
 
 -- what one cell adds is one image
-same_adds : {old one other : Image} {at : ℕ} {r : RecordCell} → Adds at old one → Adds at old other → Holds one at r
+same_adds : {old one other : Image} {at : ℕ} {r : RecordCell} → AddsOneCell at old one → AddsOneCell at old other → Holds one at r
     → Holds other at r → one ≡ other
 same_adds {old} {one} {other} {at} a b h k = same_image (λ cell. ⊎_elim
     (λ (same : cell ≡ at). ap one same ∙ held_same h k ∙ ap other (sym same))
@@ -41,7 +41,7 @@ both_same : {old one other : Image} {at pointer target : ℕ} {p : PostingFields
     → AddsBoth old other at pointer target p → one ≡ other
 both_same {old} {one} {other} {at} {pointer} {target} {p} a b =
     let mid : a.mid ≡ b.mid = same_adds a.adds b.adds a.posting b.posting in
-    same_adds (subst (λ (i : Image). Adds pointer i one) mid a.adds_jump) b.adds_jump a.jump b.jump
+    same_adds (subst (λ (i : Image). AddsOneCell pointer i one) mid a.adds_jump) b.adds_jump a.jump b.jump
 
 -- each place of a front is written
 front_written : {image : Image} {block j : ℕ} {q : PostingFields} → InFront image block j q → (i : ℕ) → i ≤ j
@@ -142,7 +142,7 @@ one_cost {p = p} {old = old} {new = new} (in_block block place walk room adds ho
     let places : place ≡ place' = one_blank room_here room' in
     let at : block + place ≡ block' + place' = omega (arith, blocks, places) in
     record {
-      images = same_adds (subst (λ (c : ℕ). Adds c old new) at adds) adds'
+      images = same_adds (subst (λ (c : ℕ). AddsOneCell c old new) at adds) adds'
           (subst (λ (c : ℕ). Holds new c (posting_record p)) at holds) holds';
       ends = to ∙ sym to_is;
       costs = is ∙ sym is';

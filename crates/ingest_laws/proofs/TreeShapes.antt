@@ -5,7 +5,7 @@ use Rattle.cell_types.specs.Image.{Image, Extends}
 use Rattle.cell_types.specs.Layout.{Layout, root_at, pool_at}
 use Rattle.cell_types.specs.declared.record_cell.RecordCell.{RecordCell}
 use Rattle.cell_types.specs.declared.record_cell.RecordCell.TheVariants.{Child}
-use Rattle.ingest_laws.specs.ListShapes.{Adds}
+use Rattle.ingest_laws.specs.ListShapes.{AddsOneCell}
 use Rattle.volume_meaning.specs.Nodes.{IsNode, root, under, AreApart}
 use Rattle.ingest_laws.specs.TreeShapes.{ChildWell, IsWellRooted}
 use Rattle.volume_meaning.specs.Volumes.{Holds, IsWritten}
@@ -68,7 +68,7 @@ module _ {g : Layout} {old new : Image} {to : ℕ} (w : IsWellRooted g old to) (
   }
 
 module _ {g : Layout} {old new : Image} {to v node x target : ℕ} (w : IsWellRooted g old to) (n : IsNode g old v node) (xs : x < 16) (less : v < 63)
-    (a : Adds (node + 16 + x) old new) (child : Holds new (node + 16 + x) (Child target)) (bucket : IsWritten old (node + x))
+    (a : AddsOneCell (node + 16 + x) old new) (child : Holds new (node + 16 + x) (Child target)) (bucket : IsWritten old (node + x))
     (fresh : to ≤ target) (pool : pool_at g ≤ to) (inside : target + 32 ≤ g.cells)
     (blank : (y : ℕ) → y < 16 → old (target + 16 + y) ≡ None) where
   e : Extends old new

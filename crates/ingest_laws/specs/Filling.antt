@@ -26,7 +26,7 @@ abbrev pub blocks_end : Plan → ℕ
 blocks_end p = document_at p.start p.reserved (length (stored_of p)) (length p.journal)
 
 -- this place of a plan's journal copies this index cell
-pub record IsCopy (p : Plan) (place target : ℕ) (copied : RecordCell) : Type 0 where
+pub record IsCopyInPlan (p : Plan) (place target : ℕ) (copied : RecordCell) : Type 0 where
   pub value : List ℕ
   pub entry : slice_get p.journal place ≡ Some value
   pub index : IsIndexRecord copied
@@ -37,9 +37,9 @@ pub record IsCopy (p : Plan) (place target : ℕ) (copied : RecordCell) : Type 0
 pub record IsPlannedCopy (g : Layout) (old : Image) (p : Plan) (place : ℕ) : Type 0 where
   pub target : ℕ
   pub copied : RecordCell
-  pub entry : IsCopy p place target copied
+  pub entry : IsCopyInPlan p place target copied
   pub rises : (place ≡ 0) ⊎ ((before : ℕ) × (lower : ℕ) × (other : RecordCell) × (place ≡ before + 1)
-      × IsCopy p before lower other × (lower < target))
+      × IsCopyInPlan p before lower other × (lower < target))
   pub before_document : target < blocks_end p
   pub index : IsIndexCell g old p.slot target ⊎ (p.start ≤ target)
 

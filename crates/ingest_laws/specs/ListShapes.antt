@@ -36,7 +36,7 @@ pub record IsWellListed (image : Image) (from to head : ℕ) : Type 0 where
   pub apart : (a b : ℕ) → Leads image from to a head → Leads image from to b head → (a ≡ b) ⊎ AreApart a 256 b 256
 
 -- new is old but for one cell, which was blank in old
-pub record Adds (at : ℕ) (old new : Image) : Type 0 where
+pub record AddsOneCell (at : ℕ) (old new : Image) : Type 0 where
   pub was : old at ≡ None
   pub others : (cell : ℕ) → cell ≢ at → new cell ≡ old cell
 
@@ -57,7 +57,7 @@ abbrev pub WellWithEntry : Type 0
 WellWithEntry =
     (old new : Image) (from to head block place : ℕ) (p : PostingFields)
     → IsWellListed old from to head → Leads old from to block head → place < 128
-    → Adds (block + place) old new → Holds new (block + place) (posting_record p)
+    → AddsOneCell (block + place) old new → Holds new (block + place) (posting_record p)
     → ((place ≡ 0) ⊎ ((before : ℕ) × (q : PostingFields) × (place ≡ before + 1)
     × Holds old (block + before) (posting_record q) × (q.key < p.key)))
     → IsWellListed new from to head
@@ -74,7 +74,7 @@ abbrev pub WellWithJump : Type 0
 WellWithJump =
     (old new : Image) (from to head block level digit target place : ℕ) (greatest some : PostingFields)
     → IsWellListed old from to head → Leads old from to block head → level < 8 → 1 ≤ digit → digit ≤ 15
-    → Adds (pointer_at block level digit) old new → Holds new (pointer_at block level digit) (Jump target)
+    → AddsOneCell (pointer_at block level digit) old new → Holds new (pointer_at block level digit) (Jump target)
     → IsFull old block greatest → from ≤ target → target + 256 ≤ to
     → place < 128 → InFront old target place some → InSpan greatest.key level digit some.key
     → (Leads old from to target head ⊎ IsNewBlock old from to head target)

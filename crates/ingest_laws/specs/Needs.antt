@@ -15,7 +15,7 @@ use Rattle.volume_meaning.specs.Blocks.{PostingFields, posting_record, Hop, InFr
 use Rattle.volume_meaning.specs.HashPaths.{IsPassed, PassedTo, nibble}
 use Rattle.volume_meaning.specs.Keeping.{sought_in}
 use Rattle.volume_meaning.specs.Postings.{ListedPosting, ArePostings}
-use Rattle.ingest_laws.specs.ListShapes.{Adds}
+use Rattle.ingest_laws.specs.ListShapes.{AddsOneCell}
 
 -- this is the first blank entry place of the block
 pub record IsBlankEntry (image : Image) (block place : ℕ) : Type 0 where
@@ -65,9 +65,9 @@ pub record IsTail (image : Image) (from to head block : ℕ) : Type 0 where
 -- new is old with this posting in one cell, and with a jump cell to the target besides
 pub record AddsBoth (old new : Image) (at pointer target : ℕ) (p : PostingFields) : Type 0 where
   pub mid : Image
-  pub adds : Adds at old mid
+  pub adds : AddsOneCell at old mid
   pub posting : Holds mid at (posting_record p)
-  pub adds_jump : Adds pointer mid new
+  pub adds_jump : AddsOneCell pointer mid new
   pub jump : Holds new pointer (Jump target)
 
 -- What one posting adds to the list that begins at head, and costs, where other blocks lie from `from` up to `next`, and
@@ -75,7 +75,7 @@ pub record AddsBoth (old new : Image) (at pointer target : ℕ) (p : PostingFiel
 -- blank pointer, which is set to the list's tail, where this has a blank entry, or else to a new block.
 pub data PostingCosts (from head : ℕ) (p : PostingFields) (old new : Image) (next to cost : ℕ) : Type 0 where
   in_block : (block place : ℕ) → WalksTo old p.key block head → IsBlankEntry old block place
-      → Adds (block + place) old new → Holds new (block + place) (posting_record p)
+      → AddsOneCell (block + place) old new → Holds new (block + place) (posting_record p)
       → to ≡ next → cost ≡ 1 → PostingCosts from head p old new next to cost
   in_tail : (block pointer tail place : ℕ) → WalksTo old p.key block head → EndsAtPointer old block p.key pointer
       → IsTail old from next head tail → IsBlankEntry old tail place → AddsBoth old new (tail + place) pointer tail p

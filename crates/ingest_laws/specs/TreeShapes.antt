@@ -4,7 +4,7 @@ use Rattle.std.specs.Prelude.{◌≡◌, ◌<◌, ◌≤◌, ◌+◌, ◌⊎◌,
 use Rattle.cell_types.specs.Image.{Image, Extends}
 use Rattle.cell_types.specs.Layout.{Layout, pool_at}
 use Rattle.cell_types.specs.declared.record_cell.RecordCell.TheVariants.{Child}
-use Rattle.ingest_laws.specs.ListShapes.{Adds}
+use Rattle.ingest_laws.specs.ListShapes.{AddsOneCell}
 use Rattle.volume_meaning.specs.Nodes.{IsNode, AreApart}
 use Rattle.volume_meaning.specs.Volumes.{Holds, IsWritten}
 
@@ -48,7 +48,7 @@ abbrev pub RootedWithChild : Type 0
 RootedWithChild =
     (g : Layout) (old new : Image) (to v node x target : ℕ)
     → IsWellRooted g old to → IsNode g old v node → x < 16 → v < 63
-    → Adds (node + 16 + x) old new → Holds new (node + 16 + x) (Child target) → IsWritten old (node + x)
+    → AddsOneCell (node + 16 + x) old new → Holds new (node + 16 + x) (Child target) → IsWritten old (node + x)
     → to ≤ target → pool_at g ≤ to → target + 32 ≤ g.cells
     → ((y : ℕ) → y < 16 → old (target + 16 + y) ≡ None)
     → IsWellRooted g new (target + 32)

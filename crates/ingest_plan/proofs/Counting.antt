@@ -21,7 +21,7 @@ use Rattle.jump_insertion.specs.Inserting.{PlansEntry}
 use Rattle.hash_tree.specs.Inserting as trees
 use Rattle.hash_tree.specs.Inserting.{PlansBucket}
 use Rattle.hash_tree.specs.Readiness.{cost_in, cost_of}
-use Rattle.ingest_plan.specs.Counts.{HasCells, PlansAtCost, PlansOneOrTwoEach}
+use Rattle.ingest_plan.specs.Counts.{HasWrittenCells, PlansAtCost, PlansOneOrTwoEach}
 
 -- so many numbers have this: these are all of them, and each is named once
 record AreAll (P : ℕ → Type 0) (count : ℕ) : Type 0 where
@@ -68,14 +68,14 @@ same_numbers onward back a = record {
   all = λ cell has. a.all cell (back cell has);
 }
 
-of_image : {image : Image} {count : ℕ} → HasCells image count → AreAll (λ (c : ℕ). IsWritten image c) count
+of_image : {image : Image} {count : ℕ} → HasWrittenCells image count → AreAll (λ (c : ℕ). IsWritten image c) count
 of_image h = record { cells = h.cells; long = h.long; once = h.once; each = h.written; all = h.all }
 
-to_image : {image : Image} {count : ℕ} → AreAll (λ (c : ℕ). IsWritten image c) count → HasCells image count
+to_image : {image : Image} {count : ℕ} → AreAll (λ (c : ℕ). IsWritten image c) count → HasWrittenCells image count
 to_image a = record { cells = a.cells; long = a.long; once = a.once; written = a.each; all = a.all }
 
 -- nothing is planned
-pub none_planned : {image : Image} → ((cell : ℕ) → image cell ≡ None) → HasCells image 0
+pub none_planned : {image : Image} → ((cell : ℕ) → image cell ≡ None) → HasWrittenCells image 0
 none_planned nothing = record {
   cells = [];
   long = refl;
@@ -97,8 +97,8 @@ written_by : {image : Image} {at : ℕ} {r : RecordCell} → Holds image at r �
 written_by h = record { found = h.cell; stands = h.stands }
 
 -- one cell more is planned
-pub one_planned : {old new : Image} {count at : ℕ} → HasCells old count → old at ≡ None → IsWritten new at
-    → ((cell : ℕ) → cell ≢ at → new cell ≡ old cell) → HasCells new (count + 1)
+pub one_planned : {old new : Image} {count at : ℕ} → HasWrittenCells old count → old at ≡ None → IsWritten new at
+    → ((cell : ℕ) → cell ≢ at → new cell ≡ old cell) → HasWrittenCells new (count + 1)
 one_planned {old} {new} {count} {at} has free written others = to_image (same_numbers onward back
     (one_more at (not_blank free) (of_image has)))
   where
@@ -111,13 +111,13 @@ one_planned {old} {new} {count} {at} has free written others = to_image (same_nu
     back c w = ⊎_elim inr (λ differs. inl (written_as (sym (others c differs)) w)) (cases_eq c at)
 
 -- two cells more are planned
-pub two_planned : {old new : Image} {count a b : ℕ} → HasCells old count → old a ≡ None → old b ≡ None → b ≢ a
+pub two_planned : {old new : Image} {count a b : ℕ} → HasWrittenCells old count → old a ≡ None → old b ≡ None → b ≢ a
     → IsWritten new a → IsWritten new b → ((cell : ℕ) → cell ≢ a → cell ≢ b → new cell ≡ old cell)
-    → HasCells new (count + 2)
+    → HasWrittenCells new (count + 2)
 two_planned {old} {new} {count} {a} {b} has free free_too apart written written_too others =
     let two = one_more b (⊎_elim (λ w. not_blank free_too w) (λ same. apart same)) (one_more a (not_blank free)
     (of_image has)) in
-    subst (λ (n : ℕ). HasCells new n) (omega arith) (to_image (same_numbers onward back two))
+    subst (λ (n : ℕ). HasWrittenCells new n) (omega arith) (to_image (same_numbers onward back two))
   where
     onward : (c : ℕ) → (IsWritten old c ⊎ (c ≡ a)) ⊎ (c ≡ b) → IsWritten new c
     onward c = ⊎_elim
@@ -234,8 +234,8 @@ no_bucket_leads target slot fingerprint same = cc
 
 -- a bucket plans one or two cells, as many as it costs without what the pool gave
 bucket_planned : (g : Layout) (level : Level) (place : Open) (slot at before : ℕ) (pool rest : Pool)
-    (old new : ViewState) → PlansBucket g level place slot at pool rest old new → HasCells old.planned before
-    → (after : ℕ) × HasCells new.planned after × (after + (rest.next - pool.next) ≡ before + cost_of place)
+    (old new : ViewState) → PlansBucket g level place slot at pool rest old new → HasWrittenCells old.planned before
+    → (after : ℕ) × HasWrittenCells new.planned after × (after + (rest.next - pool.next) ≡ before + cost_of place)
     × (before + 1 ≤ after) × (after ≤ before + 2)
 bucket_planned g level place slot at before pool rest old new
     (trees.alone none same_at holds others small same_pool) has =
@@ -318,7 +318,7 @@ among (x ∷ xs) ys once has =
     omega (arith, rest, without_length ys here.0 x here.1)
 
 -- an image has one number of written cells
-pub count_is_one : (image : Image) (a b : ℕ) → HasCells image a → HasCells image b → a ≡ b
+pub count_is_one : (image : Image) (a b : ℕ) → HasWrittenCells image a → HasWrittenCells image b → a ≡ b
 count_is_one image a b one other =
     let low = among one.cells other.cells one.once (λ i cell is. other.all cell (one.written i cell is)) in
     let high = among other.cells one.cells other.once (λ i cell is. one.all cell (other.written i cell is)) in

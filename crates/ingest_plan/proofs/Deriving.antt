@@ -24,7 +24,7 @@ use Rattle.worm_device.specs.Views.{IsView, ViewState}
 use Rattle.hash_tree.specs.declared.level.Level.{Level}
 use Rattle.hash_tree.specs.declared.path.Open.{Open}
 use Rattle.hash_tree.specs.Readiness.{blank_of}
-use Rattle.ingest_plan.specs.Counts.{HasCells}
+use Rattle.ingest_plan.specs.Counts.{HasWrittenCells}
 use Rattle.ingest_plan.specs.Indexes.{IndexEnds, IndexStandsAtCost, Indexes, IsIndexed}
 use Rattle.ingest_plan.specs.Journal.{IsJournal}
 use Rattle.ingest_plan.specs.Standing.{HasKeysBetween, ListsStand}
@@ -53,7 +53,7 @@ module _ (g : Layout) (n : ℕ) (stamp : Option ℕ) (body : List ℕ) (rows : L
 
 -- the journal has as many cells as are planned
 journal_counts : {planned : Image} {journal : List (List ℕ)} → IsJournal planned journal
-    → HasCells planned (length journal)
+    → HasWrittenCells planned (length journal)
 journal_counts {planned} {journal} is = record {
   cells = is.numbers;
   long = is.long;

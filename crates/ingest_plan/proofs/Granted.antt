@@ -9,12 +9,12 @@ use Rattle.worm_device.specs.State.{DeviceState}
 use Rattle.worm_device.proofs.Counting.{still_first, still_second}
 use Rattle.worm_device.proofs.Images.{unchanged_then}
 use Rattle.volume_meaning.proofs.Extending.{holds_on}
-use Rattle.cell_pool.specs.Grants.{Grant, Tile}
-use Rattle.ingest_plan.specs.Granting.{GivesWhatIsLedTo, IsLedTo, to_block, to_node}
+use Rattle.cell_pool.specs.Grants.{Grant, GrantsTileCells}
+use Rattle.ingest_plan.specs.Granting.{GivesWhatIsLedTo, IsGrantLedTo, to_block, to_node}
 
 -- a piece behind tiles
-tile_more : (from to size : ℕ) (grants : List Grant) → Tile from to grants
-    → Tile from (to + size) (grants ++ (record { at = to; size = size } ∷ []))
+tile_more : (from to size : ℕ) (grants : List Grant) → GrantsTileCells from to grants
+    → GrantsTileCells from (to + size) (grants ++ (record { at = to; size = size } ∷ []))
 tile_more from to size [] tile = (sym tile, ap (λ (n : ℕ). n + size) tile)
 tile_more from to size (grant ∷ grants) tile = (tile.0, tile_more (from + grant.size) to size grants tile.1)
 
@@ -28,7 +28,7 @@ each_more P (other ∷ grants) one each last zero grant is = each zero grant is
 each_more P (other ∷ grants) one each last (suc i) grant is =
     each_more P grants one (λ j found h. each (suc j) found h) last i grant is
 
-led_on : {old new : Image} {grant : Grant} → Extends old new → IsLedTo old grant → IsLedTo new grant
+led_on : {old new : Image} {grant : Grant} → Extends old new → IsGrantLedTo old grant → IsGrantLedTo new grant
 led_on more (to_block cell holds size) = to_block cell (holds_on more holds) size
 led_on more (to_node cell holds size) = to_node cell (holds_on more holds) size
 
@@ -42,20 +42,20 @@ pub gives_on : {old new : Image} {from to later : ℕ} → Extends old new → l
 gives_on {from = from} more same given = (
   given.0,
   record {
-    tile = subst (λ (n : ℕ). Tile from n given.0) (sym same) given.1.tile;
+    tile = subst (λ (n : ℕ). GrantsTileCells from n given.0) (sym same) given.1.tile;
     led = λ i grant is. led_on more (given.1.led i grant is);
   },
 )
 
 -- more is planned, and leads to what the pool gave
 pub gives_more : {old new : Image} {from later : ℕ} (to size : ℕ) → Extends old new → later ≡ to + size
-    → IsLedTo new (record { at = to; size = size }) → GivesWhatIsLedTo old from to → GivesWhatIsLedTo new from later
+    → IsGrantLedTo new (record { at = to; size = size }) → GivesWhatIsLedTo old from to → GivesWhatIsLedTo new from later
 gives_more {new = new} {from = from} to size more same led given =
     let one : Grant = record { at = to; size = size } in (
       given.0 ++ (one ∷ []),
       record {
-        tile = subst (λ (n : ℕ). Tile from n (given.0 ++ (one ∷ []))) (sym same) (tile_more from to size given.0 given.1.tile);
-        led = each_more (λ grant. IsLedTo new grant) given.0 one (λ i grant is. led_on more (given.1.led i grant is)) led;
+        tile = subst (λ (n : ℕ). GrantsTileCells from n (given.0 ++ (one ∷ []))) (sym same) (tile_more from to size given.0 given.1.tile);
+        led = each_more (λ grant. IsGrantLedTo new grant) given.0 one (λ i grant is. led_on more (given.1.led i grant is)) led;
       },
     )
 

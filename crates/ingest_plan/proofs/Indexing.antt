@@ -16,7 +16,7 @@ use Rattle.volume_meaning.proofs.Trails.{trail_on}
 use Rattle.volume_meaning.specs.Volumes.{Holds}
 use Rattle.tamper_rules.specs.Journals.{IsIndexRecord}
 use Rattle.cell_pool.specs.declared.pool.Pool.{Pool}
-use Rattle.hash_tree.specs.Levels.{IsLed, IsWithin, bucket_at, child_at, node_of}
+use Rattle.hash_tree.specs.Levels.{IsLedByChild, IsNodeWithin, bucket_at, child_at, node_of}
 use Rattle.hash_tree.specs.Steps.{IsOpenOf}
 use Rattle.hash_tree.specs.declared.level.ChildCell.{ChildCell}
 use Rattle.hash_tree.specs.declared.level.Level.{Level}
@@ -28,15 +28,15 @@ use Rattle.worm_device.proofs.Covering.{planned_show}
 use Rattle.worm_device.proofs.Images.{extends_self, extends_then}
 use Rattle.worm_device.specs.Calls.{Called}
 use Rattle.worm_device.specs.Counts.{IsStill}
-use Rattle.worm_device.specs.Overlays.{over, PlansNothing}
+use Rattle.worm_device.specs.Overlays.{over, PlansNoMore}
 use Rattle.worm_device.specs.State.{DeviceState}
 use Rattle.worm_device.specs.Views.{IsView, ViewState}
 use Rattle.worm_device.specs.declared.owner.Owner.{Owner}
-use Rattle.hash_tree.specs.Inserting.{InsertsEntry, IsInserted, IsTaken, PlansBucket, alone, with_node}
-use Rattle.hash_tree.specs.Readiness.{IsReady, blank_in, blank_of, cost_of, owner_in}
+use Rattle.hash_tree.specs.Inserting.{InsertsEntry, IsEntryInserted, IsPlaceTaken, PlansBucket, alone, with_node}
+use Rattle.hash_tree.specs.Readiness.{IsReadyPlace, blank_in, blank_of, cost_of, owner_in}
 use Rattle.hash_tree.specs.Rooting.{IsRooted, IsRootedBefore}
 use Rattle.ingest_plan.specs.Granting.{GivesWhatIsLedTo, to_node}
-use Rattle.ingest_plan.specs.Indexes.{IndexEnds, IndexStandsAtCost, Indexes, IsIndexCell, IsIndexed, in_list, in_tree}
+use Rattle.ingest_plan.specs.Indexes.{IndexEnds, IndexStandsAtCost, Indexes, HoldsIndexRecord, IsIndexed, in_list, in_tree}
 use Rattle.ingest_plan.specs.Rows.{AreInOrder, AreInserted, InsertsRow, IsRowCell, of_posting, of_pointer, LiesInLists, in_first, in_pool}
 use Rattle.ingest_plan.specs.Counts.{PlansAtCost}
 use Rattle.ingest_plan.specs.Standing.{HasKeysBetween, IndexStands, ListsStand, RowStands}
@@ -54,7 +54,7 @@ place_within g level bucket (Some child) half at = (omega (arith, at.1), omega (
 root_node : (g : Layout) (level : Level) → level.led_by ≡ None → node_of g level ≡ root_at g
 root_node g level first = ap (λ (led : Option ChildCell). Rattle.hash_tree.specs.Levels.node_in g led) first
 
-led_on : (old new : Image) (led : Option ChildCell) → Extends old new → IsLed old led → IsLed new led
+led_on : (old new : Image) (led : Option ChildCell) → Extends old new → IsLedByChild old led → IsLedByChild new led
 led_on old new None e is = tt
 led_on old new (Some child) e is = (e.keeps child.cell child.found is.0, is.1)
 
@@ -67,8 +67,8 @@ module _ (g : Layout) (n : ℕ) (rows : List ListedPosting) (level : Level) (pla
     (order : AreInOrder g rows)
     (nothing : (cell : ℕ) → old.planned cell ≡ None) (unowned : (cell : ℕ) → old.owners cell ≡ None)
     (half : nibble level.digest level.number < 16) (number : level.number < 64) (open_at : IsOpenOf g level place)
-    (floor : pool_at g ≤ old.fresh) (fresh : old.fresh ≤ next) (within : IsWithin g old.fresh level.led_by)
-    (led : IsTrue old.base.tells → IsLed old.lower level.led_by)
+    (floor : pool_at g ≤ old.fresh) (fresh : old.fresh ≤ next) (within : IsNodeWithin g old.fresh level.led_by)
+    (led : IsTrue old.base.tells → IsLedByChild old.lower level.led_by)
     (called : Called old.base mid.base) (same : mid.fresh ≡ old.fresh) (lower : Extends old.lower mid.lower)
     (row : AreInserted g rows (length rows) from next old mid) where
   -- nothing is planned in the root
@@ -90,13 +90,13 @@ module _ (g : Layout) (n : ℕ) (rows : List ListedPosting) (level : Level) (pla
       (λ h. omega (arith, h.4, order.lists_are h.0 h.1 h.3))
       (row.for_lists (blank_of place) (owner_in g (node_of g level)) is)
 
-  pub tree_is_ready : IsReady g level place next mid
+  pub tree_is_ready : IsReadyPlace g level place next mid
   tree_is_ready = record {
     number = number;
     open_at = open_at;
     from = omega (arith, floor, same);
     fresh = omega (arith, fresh, same);
-    within = subst (λ (f : ℕ). IsWithin g f level.led_by) (sym same) within;
+    within = subst (λ (f : ℕ). IsNodeWithin g f level.led_by) (sym same) within;
     beyond = row.free;
     of_root = λ first. root_free (mid.planned (blank_of place)) refl first;
     of_others = none_of_tree;
@@ -113,7 +113,7 @@ module _ (g : Layout) (n : ℕ) (rows : List ListedPosting) (level : Level) (pla
   from_lists cell (in_pool low) = omega (arith, low)
 
   -- what the postings planned
-  pub row_is_index : (cell : ℕ) (value : List ℕ) → mid.planned cell ≡ Some value → IsIndexCell g cell value
+  pub row_is_index : (cell : ℕ) (value : List ℕ) → mid.planned cell ≡ Some value → HoldsIndexRecord g cell value
   row_is_index cell value is = ⊎_elim
       (λ was. absurd (none-some value (sym (nothing cell) ∙ was)))
       (λ is_row.
@@ -133,14 +133,14 @@ module _ (g : Layout) (n : ℕ) (rows : List ListedPosting) (level : Level) (pla
       by_led : (led_by : Option ChildCell) → level.led_by ≡ led_by → lists_at g ≤ node_of g level
       by_led None is = omega (arith, root_node g level is)
       by_led (Some child) is =
-          let w : IsWithin g old.fresh (Some child) = subst (λ (l : Option ChildCell). IsWithin g old.fresh l) is within in
+          let w : IsNodeWithin g old.fresh (Some child) = subst (λ (l : Option ChildCell). IsNodeWithin g old.fresh l) is within in
           let same : node_of g level ≡ child.target = ap (λ (l : Option ChildCell). Rattle.hash_tree.specs.Levels.node_in g l) is in
           omega (arith, w.0, same)
 
-  module _ (pool rest : Pool) (new : ViewState) (at : ℕ) (inserted : IsInserted g level place n at pool rest mid new)
+  module _ (pool rest : Pool) (new : ViewState) (at : ℕ) (inserted : IsEntryInserted g level place n at pool rest mid new)
       (from_pool : pool.next ≡ next) where
     planned_there : {at : ℕ} {r : RecordCell} {owner : Owner} → HoldsPlanned at r owner mid new → (cell : ℕ) (value : List ℕ)
-        → cell ≡ at → new.planned cell ≡ Some value → IsIndexRecord r → lists_at g ≤ at → IsIndexCell g cell value
+        → cell ≡ at → new.planned cell ≡ Some value → IsIndexRecord r → lists_at g ≤ at → HoldsIndexRecord g cell value
     planned_there {at} {r} {owner} holds cell value here is index from =
         let there : new.planned at ≡ Some value = subst (λ (c : ℕ). new.planned c ≡ Some value) here is in
         let e : holds.planned.cell ≡ value = (let k : Some holds.planned.cell ≡ Some value = sym holds.planned.stands ∙ there in cc) in
@@ -152,7 +152,7 @@ module _ (g : Layout) (n : ℕ) (rows : List ListedPosting) (level : Level) (pla
         }
 
     only_now : PlansBucket g level place n at pool rest mid new → (cell : ℕ) (value : List ℕ) → new.planned cell ≡ Some value
-        → IsIndexCell g cell value
+        → HoldsIndexRecord g cell value
     only_now (alone none same_at holds others small same_pool) cell value is = ⊎_elim
         (λ here. planned_there holds cell value here is tt (omega (arith, same_at, node_from)))
         (λ differs. row_is_index cell value (sym (others cell differs).planned ∙ is))
@@ -308,7 +308,7 @@ module _ (g : Layout) (n : ℕ) (rows : List ListedPosting) (level : Level) (pla
 
 -- what is taken is taken still, where nothing was planned
 taken_still : (g : Layout) (level : Level) (place : Open) (mid new : ViewState) (e : Rattle.cell_types.specs.declared.refusal.Evidence.Evidence)
-    → PlansNothing mid new → new.lower ≡ mid.lower → new.base ≡ mid.base → IsTaken g level place mid e → IsTaken g level place new e
+    → PlansNoMore mid new → new.lower ≡ mid.lower → new.base ≡ mid.base → IsPlaceTaken g level place mid e → IsPlaceTaken g level place new e
 taken_still g level place mid new e same lower base t = record {
   planned = record { found = t.planned.found; stands = same.planned (blank_of place) ∙ t.planned.stands };
   shown = record { found = t.shown.found; stands = same.image (blank_of place) ∙ t.shown.stands };

@@ -20,13 +20,13 @@ use Rattle.hash_tree.specs.declared.level.Level.{Level}
 use Rattle.hash_tree.specs.declared.path.Open.{Open}
 use Rattle.jump_insertion.specs.Evidence.{AreInTheirPlaces, IsInItsPlace, IsLicensedBelow, IsPastSlots, NothingBelowPlans, ShowsBelow, bad_entry, bad_pointer, late, of_list, of_new, of_tree}
 use Rattle.jump_insertion.proofs.Licence.{licensed}
-use Rattle.hash_tree.specs.Inserting.{IsTaken}
+use Rattle.hash_tree.specs.Inserting.{IsPlaceTaken}
 use Rattle.hash_tree.specs.InsertionLaws.{LiesByOwner, in_block, in_new, in_node}
 use Rattle.hash_tree.proofs.InsertionLicence as tree
-use Rattle.ingest_plan.specs.Indexes.{IsNamed, in_list, in_tree}
+use Rattle.ingest_plan.specs.Indexes.{IsIndexEvidence, in_list, in_tree}
 use Rattle.ingest_plan.specs.Rows.{AreInOrder}
 use Rattle.ingest_plan.specs.Over.{NamesBelow}
-use Rattle.ingest_plan.specs.Planning.{IsGrowthRule, IsLater, NamesCell}
+use Rattle.ingest_plan.specs.Planning.{IsGrowthRule, IsLater, PlanNamesCell}
 
 -- the rule of what is shown in a list
 rule_shown : {s : ViewState} {head floor key : ℕ} {e : Evidence} → ShowsBelow s head floor key e → IsGrowthRule e.rule
@@ -59,7 +59,7 @@ list_broken {n = n} {e = e} licence past none places volume horizon edge = ⊎_e
     (cases_eq e.rule FAKE_POSTING)
 
 -- the child cell is one of a node
-led_place : {g : Layout} {level : Level} {place : Open} {s : ViewState} {e : Evidence} → IsTaken g level place s e
+led_place : {g : Layout} {level : Level} {place : Open} {s : ViewState} {e : Evidence} → IsPlaceTaken g level place s e
     → IsLedWithin g s.lower level.led_by → IsChildPlace g s.lower e.cell
 led_place {g} {s = s} taken within =
     subst (λ (c : ℕ). IsChildPlace g s.lower c) (sym taken.cell)
@@ -73,7 +73,7 @@ ArePastSlots g n stamp rows =
 
 licensed_there : {g : Layout} {n : ℕ} {stamp : Option ℕ} {rows : List ListedPosting} {level : Level} {place : Open}
     {s : ViewState} {e : Evidence} → IsView s → AreInOrder g rows → ArePastSlots g n stamp rows → s.fresh ≤ g.cells
-    → IsTrue s.base.tells → IsNamed g rows level place s e → IsLicensedThere g n stamp level s e
+    → IsTrue s.base.tells → IsIndexEvidence g rows level place s e → IsLicensedThere g n stamp level s e
 licensed_there {g} {n} {stamp} {rows} {level} {place} {s} {e} view order slot inside tells (in_list i p is shows) =
     let licence = licensed g s p.list p.posting.key e view (order.lists_are i p is) shows in
     record {
@@ -98,7 +98,7 @@ pub names_cell : {g : Layout} {n edge : ℕ} {stamp : Option ℕ} {rows : List L
     → ArePastSlots g n stamp rows → edge ≤ g.cells → IsTrue new.base.tells
     → start.image ≡ old.lower → done.image ≡ new.lower
     → (IsStill start.foreign_writes done.foreign_writes → IsUnchanged start.image done.image)
-    → NamesBelow g edge rows level place old new e → NamesCell g n edge level stamp body start done e
+    → NamesBelow g edge rows level place old new e → PlanNamesCell g n edge level stamp body start done e
 names_cell {g} {n} {edge} {stamp} {rows} {level} {place} {old} {new} {e} body start done postings order slot inside tells before there quiet h =
     record {
       postings = postings;

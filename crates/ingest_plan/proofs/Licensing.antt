@@ -10,7 +10,7 @@ use Rattle.worm_device.specs.Views.{IsView, ViewState}
 use Rattle.worm_device.specs.declared.owner.Owner.{Owner}
 use Rattle.jump_insertion.specs.Evidence.{AreInTheirPlaces, IsInItsPlace, of_list, of_new, of_tree}
 use Rattle.jump_insertion.specs.Inserting.{PlansEntry}
-use Rattle.jump_insertion.specs.Readiness.{IsReady}
+use Rattle.jump_insertion.specs.Readiness.{IsReadyList}
 use Rattle.jump_insertion.proofs.Licence.{block_on, reached_in_place}
 use Rattle.hash_tree.proofs.Rooting.{node_on}
 use Rattle.ingest_plan.specs.Licensing.{IsLicensable}
@@ -28,7 +28,7 @@ place_on more same (of_tree v head node from to) = of_tree v head (node_on more 
 -- and so does what was planned before one insertion, beside what this plans
 pub places_next : {g : Layout} {l next to at : ℕ} {p : PostingFields} {old new : ViewState} → l < all_lists g
     → PlansEntry (list_at g l) (pool_at g) next to p at old new
-    → ((key : ℕ) → p.key < key → IsReady new (list_at g l) (pool_at g) to key)
+    → ((key : ℕ) → p.key < key → IsReadyList new (list_at g l) (pool_at g) to key)
     → Extends old.lower new.lower → new.fresh ≡ old.fresh → new.fresh ≤ g.cells → AreInTheirPlaces g old
     → AreInTheirPlaces g new
 places_next {g} {l} {next} {to} {at} {p} {old} {new} list plans ready more same inside before cell owner is =

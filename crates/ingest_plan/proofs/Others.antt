@@ -9,7 +9,7 @@ use Rattle.volume_meaning.specs.Blocks.{PostingFields, posting_record}
 use Rattle.worm_device.specs.Counts.{IsStill}
 use Rattle.worm_device.specs.Views.{ViewState}
 use Rattle.worm_device.specs.declared.owner.Owner.{Owner}
-use Rattle.jump_insertion.specs.Inserting.{IsPlannedFor, PlansEntry, alone, with_pointer}
+use Rattle.jump_insertion.specs.Inserting.{IsPlannedInList, PlansEntry, alone, with_pointer}
 
 -- a planned cell is for whom it was, or is new and lies in a block of this list
 pub data IsOwned (head floor : ℕ) (old : ViewState) (cell : ℕ) (owner : Owner) : Type 0 where
@@ -36,7 +36,7 @@ the_owner : (one other : Owner) (found : Option Owner) → found ≡ Some one �
 the_owner one other found is planned = let e : Some one ≡ Some other = sym is ∙ planned in cc
 
 owned_anew : {head floor at : ℕ} {r : RecordCell} {old new : ViewState}
-    → IsPlannedFor head floor r at old new → (cell : ℕ) (owner : Owner) → cell ≡ at → new.owners cell ≡ Some owner
+    → IsPlannedInList head floor r at old new → (cell : ℕ) (owner : Owner) → cell ≡ at → new.owners cell ≡ Some owner
     → IsOwned head floor old cell owner
 owned_anew {head} {floor} {at} {r} {old} {new} one cell owner same is =
     let owns : Owner = record { head = head; base = one.block } in
@@ -61,7 +61,7 @@ owned_in {head} {floor} {at} (with_pointer pointer target one other apart rest t
     (cases_eq cell at)
 
 record_there : {head floor at : ℕ} {r : RecordCell} {old new : ViewState}
-    → IsPlannedFor head floor r at old new → (cell : ℕ) (value : List ℕ) → cell ≡ at → new.planned cell ≡ Some value
+    → IsPlannedInList head floor r at old new → (cell : ℕ) (value : List ℕ) → cell ≡ at → new.planned cell ≡ Some value
     → IsRecordCell r cell value
 record_there {head} {floor} {at} {r} {old} {new} one cell value same is =
     let there : new.planned at ≡ Some value = subst (λ (n : ℕ). new.planned n ≡ Some value) same is in
@@ -69,11 +69,11 @@ record_there {head} {floor} {at} {r} {old} {new} one cell value same is =
     subst (λ (n : ℕ). IsRecordCell r n value) (sym same) (subst (λ (v : List ℕ). IsRecordCell r at v) e one.held.is)
 
 free_there : {head floor at : ℕ} {r : RecordCell} {old new : ViewState}
-    → IsPlannedFor head floor r at old new → (cell : ℕ) → cell ≡ at → old.planned cell ≡ None
+    → IsPlannedInList head floor r at old new → (cell : ℕ) → cell ≡ at → old.planned cell ≡ None
 free_there {head} {floor} {at} {r} {old} {new} one cell same = subst (λ (n : ℕ). old.planned n ≡ None) (sym same) one.free
 
 near_there : {head floor at : ℕ} {r : RecordCell} {old new : ViewState}
-    → IsPlannedFor head floor r at old new → (cell : ℕ) → cell ≡ at → IsNear head floor cell
+    → IsPlannedInList head floor r at old new → (cell : ℕ) → cell ≡ at → IsNear head floor cell
 near_there one cell same = record {
   block = one.block;
   from = omega (arith, same, one.from);
@@ -129,7 +129,7 @@ plans_blank {head} {floor} {at} {p} {old} {new} (with_pointer pointer target one
 
 -- what is planned is planned
 is_planned_there : {head floor at : ℕ} {r : RecordCell} {old new : ViewState}
-    → IsPlannedFor head floor r at old new → (cell : ℕ) → cell ≡ at → new.planned cell ≡ None → ⊥
+    → IsPlannedInList head floor r at old new → (cell : ℕ) → cell ≡ at → new.planned cell ≡ None → ⊥
 is_planned_there {at = at} {new = new} one cell same none =
     none-some one.held.cell (sym none ∙ ap new.planned same ∙ one.held.stands)
 

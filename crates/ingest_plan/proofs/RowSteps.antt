@@ -25,7 +25,7 @@ use Rattle.worm_device.specs.Views.{IsView, ViewState}
 use Rattle.worm_device.specs.declared.owner.Owner.{Owner}
 use Rattle.jump_insertion.specs.Growing.{Grows}
 use Rattle.jump_insertion.specs.Inserting.{InsertsPosting, PlansEntry, alone, with_pointer}
-use Rattle.jump_insertion.specs.Readiness.{IsReady, IsUntouched}
+use Rattle.jump_insertion.specs.Readiness.{IsReadyList, IsUntouched}
 use Rattle.ingest_plan.specs.Rows.{AreInOrder, AreInserted, AreUntouched, InsertsRow, IsRowCell, of_posting, of_pointer, LiesInLists, in_first, in_pool, RowSoFar, StandsInList}
 use Rattle.ingest_plan.specs.Granting.{GivesWhatIsLedTo, to_block}
 use Rattle.ingest_plan.specs.Counts.{PlansAtCost}
@@ -188,13 +188,13 @@ module _ (g : Layout) (rows : List ListedPosting) (i : ℕ) (first pool later : 
 
   ready_now : IsTrue old.base.tells → (a : ListedPosting) → a.list < all_lists g
       → ((j : ℕ) (q : ListedPosting) → j < i + 1 → slice_get rows j ≡ Some q → ComesBefore q a)
-      → IsReady new (list_at g a.list) (pool_at g) later.next a.posting.key
+      → IsReadyList new (list_at g a.list) (pool_at g) later.next a.posting.key
   ready_now tells a less before = ⊎_elim
       (λ (behind : p.list < a.list).
       untouched_ready new (list_at g a.list) (pool_at g) later.next a.posting.key
       (untouched_now tells a.list less (λ j q small is. all_behind behind j q small is)))
       (λ (same : (p.list ≡ a.list) × (p.posting.key < a.posting.key)).
-      subst (λ (l : ℕ). IsReady new (list_at g l) (pool_at g) later.next a.posting.key) same.0
+      subst (λ (l : ℕ). IsReadyList new (list_at g l) (pool_at g) later.next a.posting.key) same.0
       ((inserts.ends.5 (told tells)).ready a.posting.key same.1))
       (before i p (omega arith) here)
     where
@@ -311,7 +311,7 @@ row_refused g rows i first pool later old mid new p fault view here so inserts =
   ends = why fault inserts;
 } where
   why : (fault : GrowthFault) → InsertsPosting (list_at g p.list) (pool_at g) pool.next later.next p.posting mid new (Err fault)
-      → Rattle.ingest_plan.specs.Rows.RowEnds g rows first.next later.next old new (Err fault)
+      → Rattle.ingest_plan.specs.Rows.InsertRowEnds g rows first.next later.next old new (Err fault)
   why (Fault faults.Failed) inserts = omega (arith, inserts.ends, so.called.faults)
   why (Fault (faults.Tampered e)) inserts = λ tells.
       let h = inserts.ends (subst IsTrue (sym so.called.tells) tells) in (

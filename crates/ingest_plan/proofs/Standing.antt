@@ -15,7 +15,7 @@ use Rattle.volume_meaning.specs.Postings.{ListedPosting}
 use Rattle.ingest_laws.specs.ListShapes.{IsWellListed}
 use Rattle.ingest_laws.specs.Needs.{PostingCosts, PostingsCost, none, one}
 use Rattle.worm_device.proofs.Images.{extends_self, extends_then}
-use Rattle.jump_insertion.specs.Costs.{HaveTrails, HaveKeysBelow}
+use Rattle.jump_insertion.specs.Costs.{ListHasTrails, HaveKeysBelow}
 use Rattle.jump_insertion.specs.Growing.{Grows}
 use Rattle.jump_insertion.specs.Others.{ListsAreApart, StandsAside}
 use Rattle.jump_insertion.proofs.Added.{IsAddedBy, the_posting, the_pointer, grows_add, leads_go_on}
@@ -158,7 +158,7 @@ module _ {g : Layout} {bound behind : ℕ → ℕ} {rows : List ListedPosting} {
   lists_next = record {
     well = each (λ (l : ℕ). IsWellListed new (pool_at g) to (list_at g l)) w
         (λ l less differ. (aside l less differ).well);
-    trails = each (λ (l : ℕ). HaveTrails new (pool_at g) to (list_at g l))
+    trails = each (λ (l : ℕ). ListHasTrails new (pool_at g) to (list_at g l))
         (trails_go_on grew (s.lists.trails p.list in_list))
         (λ l less differ. (aside l less differ).trails (s.lists.trails l less));
     keys = each (λ (l : ℕ). HaveKeysBelow new (pool_at g) to (list_at g l) (behind l))

@@ -20,13 +20,13 @@ use Rattle.hash_tree.specs.declared.path.Open.{Open}
 use Rattle.jump_insertion.specs.Evidence.{ShowsBelow}
 use Rattle.hash_tree.specs.Inserting as tree
 use Rattle.hash_tree.specs.Readiness.{blank_of, cost_of}
-use Rattle.ingest_plan.specs.Counts.{HasCells, PlansOneOrTwoEach}
+use Rattle.ingest_plan.specs.Counts.{HasWrittenCells, PlansOneOrTwoEach}
 use Rattle.ingest_plan.specs.Granting.{GivesWhatIsLedTo}
 use Rattle.ingest_plan.specs.Licensing.{IsLicensable}
 use Rattle.ingest_plan.specs.Standing.{HasKeysBetween, IndexStands, ListsStand}
 
 -- the cell of an index record, which is well-formed there, from the first list on
-pub record IsIndexCell (g : Layout) (cell : ℕ) (value : List ℕ) : Type 0 where
+pub record HoldsIndexRecord (g : Layout) (cell : ℕ) (value : List ℕ) : Type 0 where
   pub held : RecordCell
   pub index : IsIndexRecord held
   pub is : IsRecordCell held cell value
@@ -43,7 +43,7 @@ pub record IndexStandsAtCost (g : Layout) (n : ℕ) (behind : ℕ → ℕ) (rows
     (place : Open) (from to : ℕ) (old new planned : Image) : Type 0 where
   pub stands : IndexStands g n behind rows level place from to old new
   pub count : ℕ
-  pub cells : HasCells planned count
+  pub cells : HasWrittenCells planned count
   pub cost : count + (to - from) ≡ stands.lists.cost + cost_of place
 
 -- The index of slot n's document is planned, before the pool's next cell, and nothing but index cells is: one or two
@@ -55,13 +55,13 @@ pub record IndexStandsAtCost (g : Layout) (n : ℕ) (behind : ℕ → ℕ) (rows
 -- index does, with keys below any bounds behind the row's, at the cost that it must have.
 pub record IsIndexed (g : Layout) (n : ℕ) (rows : List ListedPosting) (level : Level) (place : Open) (from to : ℕ)
     (old new : ViewState) : Type 0 where
-  pub only : (cell : ℕ) (value : List ℕ) → new.planned cell ≡ Some value → IsIndexCell g cell value
+  pub only : (cell : ℕ) (value : List ℕ) → new.planned cell ≡ Some value → HoldsIndexRecord g cell value
   pub before : (cell : ℕ) → to ≤ cell → new.planned cell ≡ None
   pub taken : PlansOneOrTwoEach old.planned new.planned (length rows + 1)
   pub grants : GivesWhatIsLedTo new.planned from to
   pub trails : IsTrue old.base.tells → (image : Image) → Extends new.lower image → Extends new.planned image
       → (i : ℕ) (p : ListedPosting) → slice_get rows i ≡ Some p → HasTrailIn g image to p
-  pub path : tree.HasTrail g level place n to new.planned
+  pub path : tree.HasTrailThere g level place n to new.planned
   pub shows : IsStill old.base.foreign_writes new.base.foreign_writes → (cell : ℕ)
       → new.image cell ≡ over (new.planned cell) (old.image cell)
   pub blank : IsTrue old.base.tells → old.image (blank_of place) ≡ None → (cell : ℕ) (value : List ℕ)
@@ -71,11 +71,12 @@ pub record IsIndexed (g : Layout) (n : ℕ) (rows : List ListedPosting) (level :
       → IndexStandsAtCost g n behind rows level place from to old.image new.image new.planned
 
 -- What is named: a cell of a list that one of the postings goes into, or the child cell that led to the level's node.
-pub data IsNamed (g : Layout) (rows : List ListedPosting) (level : Level) (place : Open) (s : ViewState) (e : Evidence)
+pub data IsIndexEvidence (g : Layout) (rows : List ListedPosting) (level : Level) (place : Open) (s : ViewState)
+    (e : Evidence)
     : Type 0 where
   in_list : (i : ℕ) (p : ListedPosting) → slice_get rows i ≡ Some p
-      → ShowsBelow s (list_at g p.list) (pool_at g) p.posting.key e → IsNamed g rows level place s e
-  in_tree : tree.IsTaken g level place s e → IsNamed g rows level place s e
+      → ShowsBelow s (list_at g p.list) (pool_at g) p.posting.key e → IsIndexEvidence g rows level place s e
+  in_tree : tree.IsPlaceTaken g level place s e → IsIndexEvidence g rows level place s e
 
 -- how planning the index may end, and why
 abbrev pub IndexEnds : Layout → ℕ → List ListedPosting → Level → Open → ℕ → ℕ → ViewState → ViewState
@@ -83,7 +84,7 @@ abbrev pub IndexEnds : Layout → ℕ → List ListedPosting → Level → Open 
 IndexEnds g n rows level place from to old new (Ok done) = IsIndexed g n rows level place from to old new
 IndexEnds g n rows level place from to old new (Err (Fault Failed)) = Rose old.base.faults new.base.faults
 IndexEnds g n rows level place from to old new (Err (Fault (Tampered e))) =
-    IsTrue old.base.tells → IsNamed g rows level place new e × IsLicensable g old new
+    IsTrue old.base.tells → IsIndexEvidence g rows level place new e × IsLicensable g old new
 IndexEnds g n rows level place from to old new (Err NoMemory) = ⊤
 
 -- What planning the index of a document does, where the pool's next cell was this one and is that one. Where nobody else

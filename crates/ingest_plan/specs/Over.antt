@@ -11,7 +11,7 @@ use Rattle.worm_device.specs.Counts.{IsStill, Rose}
 use Rattle.worm_device.specs.Views.{IsView, ViewState}
 use Rattle.hash_tree.specs.declared.level.Level.{Level}
 use Rattle.hash_tree.specs.declared.path.Open.{Open}
-use Rattle.ingest_plan.specs.Indexes.{IsIndexed, IsNamed}
+use Rattle.ingest_plan.specs.Indexes.{IsIndexed, IsIndexEvidence}
 use Rattle.ingest_plan.specs.Licensing.{IsLicensable}
 use Rattle.ingest_plan.specs.Planning.{IsJournalBefore}
 use Rattle.ingest_plan.specs.declared.plan.PlannedIndex.{PlannedIndex}
@@ -28,7 +28,7 @@ pub record NamesBelow (g : Layout) (edge : ℕ) (rows : List ListedPosting) (lev
     (old new : ViewState) (e : Evidence) : Type 0 where
   pub view : IsView new
   pub fresh : new.fresh ≡ edge
-  pub is : IsNamed g rows level place new e
+  pub is : IsIndexEvidence g rows level place new e
   pub licensable : IsLicensable g old new
 
 -- how planning over a view may end, and why

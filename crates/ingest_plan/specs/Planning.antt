@@ -24,7 +24,7 @@ use Rattle.hash_tree.specs.declared.level.Level.{Level}
 use Rattle.hash_tree.specs.declared.path.Open.{Open}
 use Rattle.hash_tree.specs.Readiness.{PassedDown, blank_of, cost_of}
 use Rattle.ingest_plan.specs.Granting.{GivesWhatIsLedTo}
-use Rattle.ingest_plan.specs.Indexes.{IsIndexCell}
+use Rattle.ingest_plan.specs.Indexes.{HoldsIndexRecord}
 use Rattle.ingest_plan.specs.Journal.{IsJournal}
 use Rattle.ingest_plan.specs.Standing.{HasKeysBetween, IndexStands, ListsStand}
 use Rattle.ingest_plan.specs.declared.plan.PlannedIndex.{PlannedIndex}
@@ -32,7 +32,7 @@ use Rattle.ingest_plan.specs.declared.plan.PlannedIndex.{PlannedIndex}
 -- The journal copies index cells alone, which lie from the first list on and before this cell.
 pub record IsJournalBefore (g : Layout) (to : ℕ) (planned : Image) (journal : List (List ℕ)) : Type 0 where
   pub is : IsJournal planned journal
-  pub index : (cell : ℕ) (value : List ℕ) → planned cell ≡ Some value → IsIndexCell g cell value
+  pub index : (cell : ℕ) (value : List ℕ) → planned cell ≡ Some value → HoldsIndexRecord g cell value
   pub before : (cell : ℕ) → to ≤ cell → planned cell ≡ None
 
 -- the stamp that is given, if one is, is past those of the done slots below n
@@ -97,7 +97,7 @@ IsGrowthRule number =
 -- cell that led to the level is one of a node, it is at a place of its rule; and where besides nobody else wrote in the
 -- call, cell 0 states this volume, the slot and the edge are a horizon and an edge of the image, and the stamp is past
 -- those of the done slots, the rule is broken there.
-pub record NamesCell (g : Layout) (n edge : ℕ) (level : Level) (stamp : Option ℕ) (body : List ℕ)
+pub record PlanNamesCell (g : Layout) (n edge : ℕ) (level : Level) (stamp : Option ℕ) (body : List ℕ)
     (old new : DeviceState) (e : Evidence) : Type 0 where
   pub postings : HasPostings g body
   pub rule : IsGrowthRule e.rule
@@ -114,7 +114,7 @@ PlanEnds g n edge level place stamp body old new (Ok p) = IsPlanned g n edge lev
 PlanEnds g n edge level place stamp body old new (Err (TooManyTerms list count)) =
     GetsTooMany g body list count × (new ≡ old)
 PlanEnds g n edge level place stamp body old new (Err (Tampered e)) =
-    IsTrue old.tells → NamesCell g n edge level stamp body old new e
+    IsTrue old.tells → PlanNamesCell g n edge level stamp body old new e
 PlanEnds g n edge level place stamp body old new (Err DeviceFault) = Rose old.faults new.faults
 PlanEnds g n edge level place stamp body old new (Err NoMemory) = ⊤
 PlanEnds g n edge level place stamp body old new (Err refusal) = ⊥

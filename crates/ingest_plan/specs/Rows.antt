@@ -16,7 +16,7 @@ use Rattle.worm_device.specs.Counts.{IsStill, Rose}
 use Rattle.worm_device.specs.Views.{ViewState}
 use Rattle.worm_device.specs.declared.owner.Owner.{Owner}
 use Rattle.jump_insertion.specs.Evidence.{AreInTheirPlaces, ShowsBelow}
-use Rattle.jump_insertion.specs.Readiness.{IsReady, IsUntouched}
+use Rattle.jump_insertion.specs.Readiness.{IsReadyList, IsUntouched}
 use Rattle.ingest_plan.specs.Counts.{PlansAtCost, PlansOneOrTwoEach}
 use Rattle.ingest_plan.specs.Granting.{GivesWhatIsLedTo}
 use Rattle.ingest_plan.specs.Licensing.{IsLicensable}
@@ -86,14 +86,15 @@ pub record AreInserted (g : Layout) (rows : List ListedPosting) (count from to :
 
 -- How inserting the row may end, and why. Evidence is of a list that one of the postings goes into, and may be licensed
 -- where nothing was planned at entry.
-abbrev pub RowEnds : Layout → List ListedPosting → ℕ → ℕ → ViewState → ViewState → Result Unit GrowthFault → Type 0
-RowEnds g rows from to old new (Ok done) = AreInserted g rows (length rows) from to old new
-RowEnds g rows from to old new (Err (Fault Failed)) = Rose old.base.faults new.base.faults
-RowEnds g rows from to old new (Err (Fault (Tampered e))) =
+abbrev pub InsertRowEnds : Layout → List ListedPosting → ℕ → ℕ → ViewState → ViewState → Result Unit GrowthFault
+    → Type 0
+InsertRowEnds g rows from to old new (Ok done) = AreInserted g rows (length rows) from to old new
+InsertRowEnds g rows from to old new (Err (Fault Failed)) = Rose old.base.faults new.base.faults
+InsertRowEnds g rows from to old new (Err (Fault (Tampered e))) =
     IsTrue old.base.tells → ((i : ℕ) × (p : ListedPosting) × (slice_get rows i ≡ Some p)
     × ShowsBelow new (list_at g p.list) (pool_at g) p.posting.key e)
     × (((cell : ℕ) → old.planned cell ≡ None) → IsLicensable g old new)
-RowEnds g rows from to old new (Err NoMemory) = ⊤
+InsertRowEnds g rows from to old new (Err NoMemory) = ⊤
 
 -- What inserting a row of postings does, where the pool's next cell was this one and is that one. Where nobody else wrote,
 -- the device below stands as it did.
@@ -105,7 +106,7 @@ pub record InsertsRow (g : Layout) (rows : List ListedPosting) (from to : ℕ) (
   pub loans : new.loans ≡ old.loans
   pub lower : Extends old.lower new.lower
   pub quiet : IsStill old.base.foreign_writes new.base.foreign_writes → IsUnchanged old.base.image new.base.image
-  pub ends : RowEnds g rows from to old new result
+  pub ends : InsertRowEnds g rows from to old new result
 
 -- The first so many postings are inserted, and those that come behind them may be.
 pub record RowSoFar (g : Layout) (rows : List ListedPosting) (count : ℕ) (first pool : Pool) (old new : ViewState)
@@ -124,7 +125,7 @@ pub record RowSoFar (g : Layout) (rows : List ListedPosting) (count : ℕ) (firs
       → ((i : ℕ) (p : ListedPosting) → i < count → slice_get rows i ≡ Some p → p.list < l) → IsUntouched new (list_at g l)
   pub ready : IsTrue old.base.tells → (a : ListedPosting) → a.list < all_lists g
       → ((i : ℕ) (p : ListedPosting) → i < count → slice_get rows i ≡ Some p → ComesBefore p a)
-      → IsReady new (list_at g a.list) (pool_at g) pool.next a.posting.key
+      → IsReadyList new (list_at g a.list) (pool_at g) pool.next a.posting.key
   pub keys : IsTrue old.base.tells → IsStill old.base.foreign_writes new.base.foreign_writes
       → (bound behind : ℕ → ℕ) → HasKeysBetween rows bound behind → ListsStand g old.image first.next bound
       → KeysSoFar g bound rows count new.image pool.next

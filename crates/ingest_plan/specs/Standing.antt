@@ -11,7 +11,7 @@ use Rattle.ingest_laws.specs.ListShapes.{IsWellListed}
 use Rattle.ingest_laws.specs.Needs.{PostingsCost}
 use Rattle.hash_tree.specs.declared.level.Level.{Level}
 use Rattle.hash_tree.specs.declared.path.Open.{Open}
-use Rattle.jump_insertion.specs.Costs.{HaveTrails, HaveKeysBelow}
+use Rattle.jump_insertion.specs.Costs.{ListHasTrails, HaveKeysBelow}
 use Rattle.jump_insertion.specs.Others.{ListsAreApart}
 use Rattle.hash_tree.specs.Inserting.{TakesItsNeed}
 use Rattle.hash_tree.specs.Rooting.{IsRooted, IsRootedBefore}
@@ -20,7 +20,7 @@ use Rattle.hash_tree.specs.Rooting.{IsRooted, IsRootedBefore}
 -- list's bound; and no block of a list meets one of another.
 pub record ListsStand (g : Layout) (image : Image) (next : ℕ) (bound : ℕ → ℕ) : Type 0 where
   pub well : (l : ℕ) → l < all_lists g → IsWellListed image (pool_at g) next (list_at g l)
-  pub trails : (l : ℕ) → l < all_lists g → HaveTrails image (pool_at g) next (list_at g l)
+  pub trails : (l : ℕ) → l < all_lists g → ListHasTrails image (pool_at g) next (list_at g l)
   pub keys : (l : ℕ) → l < all_lists g → HaveKeysBelow image (pool_at g) next (list_at g l) (bound l)
   pub apart : (l k : ℕ) → l < all_lists g → k < all_lists g → l ≢ k
       → ListsAreApart image (pool_at g) next (list_at g l) (list_at g k)

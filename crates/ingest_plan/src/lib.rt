@@ -30,7 +30,7 @@
 //! (`KeepsDocument`). That holds on any device, whoever else writes while it is planned.
 //!
 //! **Evidence is licensed**: it comes where no list gets too many tags, stands on the device, and its rule is broken there
-//! where nobody else wrote, and the slot and the edge are a horizon and an edge of the image (`NamesCell`).
+//! where nobody else wrote, and the slot and the edge are a horizon and an edge of the image (`PlanNamesCell`).
 //!
 //! Stands on `word_reader` and `term_tags`, which give the postings, and on `jump_insertion` and `hash_tree`, which
 //! insert one entry each. Begin with `plan.rt`, then `whole.rt` and `rows.rt`; `specs/Planning.antt` says what a plan

@@ -3,7 +3,7 @@ ghost use Rattle.std.specs.Prelude.{◌≡◌, ◌<◌, ◌≤◌, ◌+◌, ◌*
 ghost use Rattle.cell_types.specs.Layout.{pool_at};
 ghost use Rattle.cell_types.specs.declared.geometry.TheConstants.{MAX_CELLS, MAX_SLOTS};
 ghost use Rattle.term_tags.specs.Listing.{MayHaveStamp};
-ghost use Rattle.hash_tree.specs.Levels.{IsLed, IsWithin};
+ghost use Rattle.hash_tree.specs.Levels.{IsLedByChild, IsNodeWithin};
 ghost use Rattle.hash_tree.specs.Steps.{IsOpenOf};
 ghost use Rattle.ingest_plan.specs.Rows.{AreInOrder};
 ghost use Rattle.ingest_plan.specs.Over.{PlansOver};
@@ -50,8 +50,8 @@ pub fn plan_index<D: Device>(
     requires to { edge ≤ volume.now.geometry.cells }
     requires number { level.now.number < 64 }
     requires open_at { IsOpenOf volume.now.geometry level.now place }
-    requires within { IsWithin volume.now.geometry edge level.now.led_by }
-    requires led { IsTrue (D.state device.old).tells → IsLed (D.state device.old).image level.now.led_by }
+    requires within { IsNodeWithin volume.now.geometry edge level.now.led_by }
+    requires led { IsTrue (D.state device.old).tells → IsLedByChild (D.state device.old).image level.now.led_by }
     ensures { PlansIndex volume.now.geometry slot edge level.now place stamp body.now (D.state device.old)
         (D.state device.new) result }
 {
@@ -82,9 +82,9 @@ fn plan_over<V: View>(
     requires nothing { (cell : ℕ) → (of_overlay V.seen overlay.old).planned cell ≡ None }
     requires number { level.now.number < 64 }
     requires open_at { IsOpenOf volume.now.geometry level.now place }
-    requires within { IsWithin volume.now.geometry edge level.now.led_by }
+    requires within { IsNodeWithin volume.now.geometry edge level.now.led_by }
     requires led { IsTrue (of_overlay V.seen overlay.old).base.tells →
-        IsLed (of_overlay V.seen overlay.old).lower level.now.led_by }
+        IsLedByChild (of_overlay V.seen overlay.old).lower level.now.led_by }
     ensures { PlansOver volume.now.geometry slot edge rows.now level.now place (of_overlay V.seen overlay.old)
         (of_overlay V.seen overlay.new) result }
 {

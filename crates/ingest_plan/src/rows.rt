@@ -1,10 +1,10 @@
 //! A row of postings.
 ghost use Rattle.std.specs.Prelude.{◌≡◌, ◌<◌, ◌≤◌, ◌+◌, ◌*◌, ◌%◌, ◌⊎◌, ℕ, None, IsTrue, length};
-ghost use Rattle.cell_pool.specs.Grants.{TakesFront, room_of};
+ghost use Rattle.cell_pool.specs.Grants.{TakesFront, free_cells};
 ghost use Rattle.cell_types.specs.Layout.{all_lists, list_at, pool_at};
 ghost use Rattle.ingest_plan.specs.Rows.{AreInOrder, AreUntouched, InsertsRow};
 ghost use Rattle.jump_insertion.specs.Inserting.{InsertsPosting};
-ghost use Rattle.jump_insertion.specs.Readiness.{IsReady};
+ghost use Rattle.jump_insertion.specs.Readiness.{IsReadyList};
 ghost use Rattle.worm_device.specs.Overlays.{of_overlay};
 
 use cell_pool::{GrowthFault, Pool};
@@ -27,7 +27,7 @@ pub fn insert_postings<V: View>(
     requires order { AreInOrder geometry.now rows.now }
     requires floor { pool_at geometry.now ≤ (of_overlay V.seen overlay.old).fresh }
     requires fresh { (of_overlay V.seen overlay.old).fresh ≤ pool.old.next }
-    requires room { 256 * length rows.now ≤ room_of pool.old }
+    requires room { 256 * length rows.now ≤ free_cells pool.old }
     requires free { (cell : ℕ) → pool.old.next ≤ cell → (of_overlay V.seen overlay.old).planned cell ≡ None }
     requires untouched { IsTrue (of_overlay V.seen overlay.old).base.tells →
         AreUntouched geometry.now (of_overlay V.seen overlay.old) }
@@ -54,10 +54,10 @@ fn insert_one<V: View>(
     requires key { row.now.posting.key % 256 ≤ row.now.posting.last }
     requires floor { pool_at geometry.now ≤ (of_overlay V.seen overlay.old).fresh }
     requires fresh { (of_overlay V.seen overlay.old).fresh ≤ pool.old.next }
-    requires room { 256 ≤ room_of pool.old }
+    requires room { 256 ≤ free_cells pool.old }
     requires free { (cell : ℕ) → pool.old.next ≤ cell → (of_overlay V.seen overlay.old).planned cell ≡ None }
     requires ready { IsTrue (of_overlay V.seen overlay.old).base.tells →
-        IsReady (of_overlay V.seen overlay.old) (list_at geometry.now row.now.list) (pool_at geometry.now) pool.old.next
+        IsReadyList (of_overlay V.seen overlay.old) (list_at geometry.now row.now.list) (pool_at geometry.now) pool.old.next
         row.now.posting.key }
     ensures pool { (pool.new ≡ pool.old) ⊎ TakesFront pool.old pool.new 256 pool.old.next }
     ensures inserts { InsertsPosting (list_at geometry.now row.now.list) (pool_at geometry.now)

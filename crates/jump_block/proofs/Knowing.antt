@@ -8,8 +8,8 @@ use Rattle.volume_meaning.specs.Blocks.{PostingFields, posting_record, InFront, 
 use Rattle.volume_meaning.proofs.Fronts.{front_on, front_holds, one_posting}
 use Rattle.jump_block.specs.Entries.{posting_of}
 use Rattle.jump_block.specs.Fronts.{AreBelow, EndsWith, HasKeyAt}
-use Rattle.jump_block.specs.Keeping.{AreKept}
-use Rattle.jump_block.specs.Known.{IsBelow, IsGreatest, IsKnown, IsPast}
+use Rattle.jump_block.specs.Keeping.{AreFrontsKept}
+use Rattle.jump_block.specs.Known.{IsBelow, IsGreatest, IsKnown, IsPastKey}
 use Rattle.jump_block.specs.declared.held_entry.Entry.{Entry}
 use Rattle.jump_block.specs.declared.kept_fronts.KeptFronts.{KeptFronts}
 use Rattle.jump_block.specs.declared.known_front.KnownFront.{KnownFront}
@@ -24,7 +24,7 @@ pub known_on : {old new : Image} {f : KnownFront} → Extends old new → IsKnow
 known_on e k = record { last = λ place is. key_on e (k.last place is) }
 
 -- what is kept stays known
-pub kept_on : {old new : Image} {fronts : KeptFronts} → Extends old new → AreKept old fronts → AreKept new fronts
+pub kept_on : {old new : Image} {fronts : KeptFronts} → Extends old new → AreFrontsKept old fronts → AreFrontsKept new fronts
 kept_on e k = record { each = λ i f is. known_on e (k.each i f is) }
 
 -- keys below x stay so
@@ -63,13 +63,13 @@ below_known image f x known below = record {
 }
 
 -- a key at or past x stays so
-pub past_on : {old new : Image} {block place x : ℕ} → Extends old new → IsPast old block place x
-    → IsPast new block place x
+pub past_on : {old new : Image} {block place x : ℕ} → Extends old new → IsPastKey old block place x
+    → IsPastKey new block place x
 past_on e h = record { p = h.p; in_front = front_on e h.in_front; past = h.past }
 
 -- the last known place holds the greatest known key
 pub past_known : (image : Image) (f : KnownFront) (x : ℕ) → IsKnown image f → 1 ≤ f.count → x ≤ f.greatest
-    → IsPast image f.block (f.count - 1) x
+    → IsPastKey image f.block (f.count - 1) x
 past_known image f x known some past =
     let h = known.last (f.count - 1) (omega arith) in record
     { p = h.p; in_front = h.in_front; past = omega (arith, h.same) }

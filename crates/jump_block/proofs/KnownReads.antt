@@ -13,7 +13,7 @@ use Rattle.worm_device.specs.Views.{ViewState, Viewed}
 use Rattle.worm_device.proofs.Resting.{viewed_then}
 use Rattle.jump_block.specs.Entries.{IsNoPosting, ReadsEntry, posting_of}
 use Rattle.jump_block.specs.Fronts.{AreBelow, FirstEnds}
-use Rattle.jump_block.specs.Known.{FindsFromKnown, IsKnown, IsPast, ReadsOn}
+use Rattle.jump_block.specs.Known.{FindsFromKnown, IsKnown, IsPastKey, ReadsOn}
 use Rattle.jump_block.specs.declared.held_entry.Entry.{Entry}
 use Rattle.jump_block.specs.declared.known_front.Front.{Front}
 use Rattle.jump_block.specs.declared.known_front.Front.TheVariants.{At, Open, Full}
@@ -81,7 +81,7 @@ module _ (f : KnownFront) (x : ℕ) (old mid new : ViewState) (viewed : Viewed o
 
   -- a known place is read that holds a key at or past x
   pub past_at : (e : Entry) → x ≤ e.key → ReadsEntry f.block place mid new (Ok (Some e)) → IsTrue old.base.tells
-      → IsPast new.image f.block place x
+      → IsPastKey new.image f.block place x
   past_at e past read tells = record {
     p = posting_of e;
     in_front = of_known new.image f place (posting_of e) (known_then read.viewed tells) less (read.ends.3 (told tells));
@@ -89,7 +89,7 @@ module _ (f : KnownFront) (x : ℕ) (old mid new : ViewState) (viewed : Viewed o
   }
 
   -- a known place that holds a key at or past x holds no other
-  pub not_less : (e : Entry) → e.key < x → (IsTrue old.base.tells → IsPast mid.image f.block place x)
+  pub not_less : (e : Entry) → e.key < x → (IsTrue old.base.tells → IsPastKey mid.image f.block place x)
       → ReadsEntry f.block place mid new (Ok (Some e)) → IsTrue old.base.tells → ⊥
   not_less e low past read tells =
       let h = past_on read.viewed.image (past tells) in

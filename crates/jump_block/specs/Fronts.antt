@@ -53,7 +53,7 @@ FirstEnds x block old new (Err (Tampered e)) =
     × (IsTrue old.base.tells → IsBadEntry new.image block place e.found × AreBelow new.image block place x)
 
 -- a look for a key in a block, at a cost of so many reads at most
-pub record FindsFirst (x block cost : ℕ) (old new : ViewState) (result : Result Front Fault) : Type 0 where
+pub record FindsInFront (x block cost : ℕ) (old new : ViewState) (result : Result Front Fault) : Type 0 where
   pub viewed : Viewed old new
   pub reads : new.base.reads ≤ old.base.reads + cost
   pub ends : FirstEnds x block old new result

@@ -16,7 +16,7 @@ pub record KeepsPlaces (fronts : KeptFronts) (block count : ℕ) : Type 0 where
   pub most : count ≤ 128
 
 -- each of them is known
-pub record AreKept (image : Image) (fronts : KeptFronts) : Type 0 where
+pub record AreFrontsKept (image : Image) (fronts : KeptFronts) : Type 0 where
   pub each : (i : ℕ) (f : KnownFront) → slice_get fronts.held i ≡ Some f → IsKnown image f
 
 -- A look in a block costs one read for each place that was not kept as known and is so afterwards, and eight besides.

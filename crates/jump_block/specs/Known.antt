@@ -54,7 +54,7 @@ pub record FindsFromKnown (x : ℕ) (old new : ViewState) (front later : KnownFr
   pub ends : FirstEnds x front.block old new result
 
 -- this place of the block's front holds a key at or past x
-pub record IsPast (image : Image) (block place x : ℕ) : Type 0 where
+pub record IsPastKey (image : Image) (block place x : ℕ) : Type 0 where
   pub p : PostingFields
   pub in_front : InFront image block place p
   pub past : x ≤ p.key
@@ -62,7 +62,8 @@ pub record IsPast (image : Image) (block place x : ℕ) : Type 0 where
 -- the first known place with a key at or past x
 abbrev pub BisectEnds : ℕ → ViewState → ViewState → KnownFront → Result ℕ Fault → Type 0
 BisectEnds x old new f (Ok place) =
-    (place < f.count) × (IsTrue old.base.tells → AreBelow new.image f.block place x × IsPast new.image f.block place x)
+    (place < f.count) × (IsTrue old.base.tells → AreBelow new.image f.block place x
+    × IsPastKey new.image f.block place x)
 BisectEnds x old new f (Err fault) = FirstEnds x f.block old new (Err fault)
 
 -- bisecting costs seven reads at most

@@ -1,7 +1,7 @@
 //! The front of a block, read from its first place or from a known one on.
 ghost use Rattle.std.specs.Prelude.{◌≤◌, ◌+◌, IsTrue};
 ghost use Rattle.volume_meaning.specs.declared.blocks.TheConstants.{BLOCK_CELLS, ENTRY_PLACES};
-ghost use Rattle.jump_block.specs.Fronts.{FindsFirst};
+ghost use Rattle.jump_block.specs.Fronts.{FindsInFront};
 ghost use Rattle.jump_block.specs.Known.{IsBelow, IsGreatest, IsKnown, ReadsOn};
 
 use crate::{Front, KnownFront, entry};
@@ -15,7 +15,7 @@ use worm_device::View;
 /// is evidence.
 pub fn first_at_least<V: View>(view: &mut V, block: u32, x: u32) -> Result<Front, Fault>
     requires inside { block + BLOCK_CELLS ≤ (V.seen view.old).cells }
-    ensures { FindsFirst x block 129 (V.seen view.old) (V.seen view.new) result }
+    ensures { FindsInFront x block 129 (V.seen view.old) (V.seen view.new) result }
 {
     let mut front = KnownFront {
         block,

@@ -2,7 +2,7 @@
 ghost use Rattle.std.specs.Prelude.{◌≡◌, ◌<◌, ◌≤◌, ℕ};
 ghost use Rattle.cell_types.specs.Image.{Image};
 ghost use Rattle.volume_meaning.specs.declared.blocks.TheConstants.{ENTRY_PLACES};
-ghost use Rattle.jump_block.specs.Keeping.{AreKept, KeepsPlaces};
+ghost use Rattle.jump_block.specs.Keeping.{AreFrontsKept, KeepsPlaces};
 ghost use Rattle.jump_block.specs.Known.{IsKnown};
 
 use crate::KnownFront;
@@ -21,7 +21,7 @@ pub struct KeptFronts {
 impl KeptFronts {
     /// No front is known.
     pub fn new() -> KeptFronts
-        ensures { (image : Image) → AreKept image result }
+        ensures { (image : Image) → AreFrontsKept image result }
     {
         let unknown = KnownFront {
             block: 0,
@@ -36,7 +36,7 @@ impl KeptFronts {
         ensures block { result.block ≡ block }
         ensures places { result.count ≤ ENTRY_PLACES }
         ensures longest { (count : ℕ) → KeepsPlaces self.now block count → count ≤ result.count }
-        ensures known { (image : Image) → AreKept image self.now → IsKnown image result }
+        ensures known { (image : Image) → AreFrontsKept image self.now → IsKnown image result }
     {
         let mut known = KnownFront {
             block,
@@ -54,7 +54,7 @@ impl KeptFronts {
     /// Keeps what is known of a front, in place of the one that was kept at this number.
     pub fn keep(&mut self, at: usize, front: KnownFront)
         requires { at < KEPT_FRONTS }
-        ensures kept { (image : Image) → AreKept image self.old → IsKnown image front → AreKept image self.new }
+        ensures kept { (image : Image) → AreFrontsKept image self.old → IsKnown image front → AreFrontsKept image self.new }
         ensures added { front.count ≤ ENTRY_PLACES → KeepsPlaces self.new front.block front.count }
     {
         self.held[at] = front;

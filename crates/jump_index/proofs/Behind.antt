@@ -21,10 +21,10 @@ use Rattle.jump_block.specs.declared.known_front.Front.TheVariants.{At, Open, Fu
 use Rattle.jump_block.specs.declared.spans.Span.{Span}
 use Rattle.jump_block.proofs.Knowing.{key_on}
 use Rattle.jump_block.proofs.OneBlock.{jump_target, none_from_blank, full_greatest, of_span}
-use Rattle.jump_index.specs.Evidence.{IsBadPointer, outside, no_key, Shows, bad_entry, bad_pointer, FaultShows}
+use Rattle.jump_index.specs.Evidence.{IsBadPointer, outside, no_key, ShowsInBlock, bad_entry, bad_pointer, FaultShows}
 use Rattle.jump_block.specs.Pointing.{HasFull, HasPointer, IsPointerPlace, IsPointerEvidence}
-use Rattle.jump_index.specs.Looking.{IsLeast}
-use Rattle.jump_index.specs.Searches.{IsEntry, IsEntryBehind}
+use Rattle.jump_index.specs.Looking.{IsLeastEntry}
+use Rattle.jump_index.specs.Searches.{IsListEntry, IsEntryBehind}
 use Rattle.jump_index.specs.declared.bounds.Bounds.{Bounds}
 use Rattle.jump_index.proofs.Passing.{known_less, next_is_least, next_passes_none, goes_through}
 
@@ -42,7 +42,7 @@ at_key a b e = ap key_of e
 pub shows_pointer : (bounds : Bounds) (image : Image) (block level digit target : ℕ) (e : Evidence)
     → IsPointerPlace level digit → HasPointer image block level digit target
     → IsPointerEvidence block level digit target (Tampered e)
-    → IsBadPointer bounds image block level digit e.found → Shows bounds image block e
+    → IsBadPointer bounds image block level digit e.found → ShowsInBlock bounds image block e
 shows_pointer bounds image block level digit target e place jump names bad =
     bad_pointer block level digit (arrived block refl) names.0 place names.1
     (ap image names.1 ∙ jump.stands ∙ ap (λ (c : List ℕ). Some c) (jump.is.same ∙ sym names.2)) bad
@@ -66,13 +66,13 @@ module _ (bounds : Bounds) (block l : ℕ) (span : Span) (target : ℕ) (old new
   )
 
   pub target_entry : (e : Entry) → bounds.edge ≤ old.cells → FirstEnds span.low target old new (Ok (At e))
-      → IsEntry old.cells e
+      → IsListEntry old.cells e
   target_entry e edge ends = record { inside = omega (arith, ends.0, to, edge); place = ends.1; last = ends.3 }
 
   -- the first entry of the target at or past the span's beginning is no greater than a posting with a trail
   pub target_first : (e : Entry) → FirstEnds span.low target old new (Ok (At e)) → e.key < span.high
       → IsTrue old.base.tells
-      → IsEntryBehind bounds new.image block e × IsLeast bounds block span.low old e
+      → IsEntryBehind bounds new.image block e × IsLeastEntry bounds block span.low old e
   target_first e ends inside tells =
       let found = ends.4 tells in (
         record {

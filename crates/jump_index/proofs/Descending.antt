@@ -21,10 +21,10 @@ use Rattle.jump_block.specs.declared.spans.Span.{Span}
 use Rattle.jump_block.proofs.Counting.{rose_later}
 use Rattle.jump_block.proofs.Knowing.{key_on}
 use Rattle.jump_block.proofs.OneBlock.{level_falls, jump_target, in_span, of_span}
-use Rattle.jump_index.specs.Evidence.{no_key, Shows, bad_entry, bad_pointer, FaultShows}
+use Rattle.jump_index.specs.Evidence.{no_key, ShowsInBlock, bad_entry, bad_pointer, FaultShows}
 use Rattle.jump_block.specs.Pointing.{HasFull, HasPointer, IsPointerEvidence, HasKeyIn}
-use Rattle.jump_index.specs.Looking.{FirstPointer, IsWithin, LooksLater, LooksOn, OnEnds, PassesNone, SearchEnds, SearchesBlock}
-use Rattle.jump_index.specs.Searches.{HasTrail, IsEntryBehind, IsExact, IsFirst}
+use Rattle.jump_index.specs.Looking.{FirstPointer, IsEntryWithin, LooksLater, LooksOn, OnEnds, PassesNone, SearchEnds, SearchesBlock}
+use Rattle.jump_index.specs.Searches.{HasBoundedTrail, IsEntryBehind, IsExact, IsFirstEntry}
 use Rattle.jump_index.specs.declared.bounds.Bounds.{Bounds}
 use Rattle.jump_index.specs.declared.looked.Looked.{Looked}
 use Rattle.jump_index.specs.declared.looked.Looked.TheVariants.{Found, Nothing, NoKey}
@@ -63,7 +63,7 @@ module _ (bounds : Bounds) (block target : ℕ) (s : Span) (l : ℕ) (is : IsSpa
   }
 
   shows_before : (image : Image) (e : Evidence) → HasPointer image block s.level s.digit target
-      → Shows bounds image target e → Shows bounds image block e
+      → ShowsInBlock bounds image target e → ShowsInBlock bounds image block e
   shows_before image e jump (bad_entry at place leads rule cell below bad) =
       bad_entry at place (onwards block s.level s.digit target is.levels is.some is.digits jump from to leads)
       rule cell below bad
@@ -74,8 +74,8 @@ module _ (bounds : Bounds) (block target : ℕ) (s : Span) (l : ℕ) (is : IsSpa
   -- a trail from the target is one from the block
   trail_before : (new : ViewState) (at : ℕ) (p : PostingFields) → bounds.edge ≤ new.cells
       → HasFull new.image block l → HasPointer new.image block s.level s.digit target
-      → s.low ≤ p.key → p.key < s.high → HasKeyIn new.image target s.low s.high → HasTrail bounds new target at p
-      → HasTrail bounds new block at p
+      → s.low ≤ p.key → p.key < s.high → HasKeyIn new.image target s.low s.high → HasBoundedTrail bounds new target at p
+      → HasBoundedTrail bounds new block at p
   trail_before new at p edge full jump low high has rest =
       let within : InSpan full.p.key s.level s.digit p.key = subst (λ (n : ℕ). InSpan n s.level s.digit p.key)
       (sym full.same) (in_span is low high) in
@@ -130,15 +130,15 @@ module _ (bounds : Bounds) (block x level : ℕ) (old mid next new : ViewState) 
   told_next tells = subst IsTrue (sym pointer.viewed.called.tells) (told tells)
 
   -- a trail with a key of the first span goes on behind the pointer
-  behind_it : IsTrue old.base.tells → (at : ℕ) (p : PostingFields) → HasTrail bounds old block at p → x ≤ p.key
-      → p.key < first.high → HasTrail bounds next target at p
+  behind_it : IsTrue old.base.tells → (at : ℕ) (p : PostingFields) → HasBoundedTrail bounds old block at p → x ≤ p.key
+      → p.key < first.high → HasBoundedTrail bounds next target at p
   behind_it tells at p trail asked below =
       let through = goes_through mid.image bounds.pool mid.cells at l block p first (full tells) is (omega arith)
       below (trail_then bounds block at p old mid viewed trail) in
       let one : through.target ≡ target = jump_target through.target target
       (one_record_holds next.image (pointer_at block first.level first.digit) (Jump through.target) (Jump target)
       (holds_on pointer.viewed.image through.jump) (pointer.ends.2 (told tells))) in
-      let P : ℕ → Type 0 = λ b. HasTrail bounds mid b at p in
+      let P : ℕ → Type 0 = λ b. HasBoundedTrail bounds mid b at p in
       trail_then bounds target at p mid next pointer.viewed (subst P one through.rest)
 
   -- nothing was found behind it
@@ -153,14 +153,14 @@ module _ (bounds : Bounds) (block x level : ℕ) (old mid next new : ViewState) 
 
   -- an entry was found behind it
   pub found_behind : (e : Entry) (bottom bound : ℕ) (looked : Looked) → bottom ≤ l → l < x → x < bound
-      → SearchesBlock bounds target x first.low first.high first.level next new (Ok (Found e)) → IsWithin e bound looked
+      → SearchesBlock bounds target x first.low first.high first.level next new (Ok (Found e)) → IsEntryWithin e bound looked
       → SearchesBlock bounds block x bottom bound level old new (Ok looked)
   found_behind e bottom bound looked ge above asked_below search within = record {
     viewed = viewed_then viewed (viewed_then pointer.viewed search.viewed);
     reads = omega (arith, reads, pointer.reads, search.reads);
     ends = ends looked within;
   } where
-    first_of_all : IsTrue old.base.tells → IsFirst bounds block x old e
+    first_of_all : IsTrue old.base.tells → IsFirstEntry bounds block x old e
     first_of_all tells at p trail asked =
         ⊎_elim
         (λ below. (search.ends.3 (told_next tells)).1 at p (behind_it tells at p trail asked below) asked)
@@ -184,7 +184,7 @@ module _ (bounds : Bounds) (block x level : ℕ) (old mid next new : ViewState) 
         (omega (arith, edge, viewed.cells, pointer.viewed.cells, search.viewed.cells)) (full_now tells) (jump_now tells)
         (omega (arith, low)) (omega (arith, high)) found.3 (found.2 same)
 
-    ends : (looked : Looked) → IsWithin e bound looked → SearchEnds bounds block x bottom bound old new (Ok looked)
+    ends : (looked : Looked) → IsEntryWithin e bound looked → SearchEnds bounds block x bottom bound old new (Ok looked)
     ends (Found f) (same, less) =
         let P : Entry → Type 0 = λ (a : Entry). SearchEnds bounds block x bottom bound old new (Ok (Found a)) in
         subst P (sym same) (
@@ -253,7 +253,7 @@ module _ (bounds : Bounds) (block x level : ℕ) (old mid next new : ViewState) 
 -- the later spans, where an entry is to have a key below the bound
 module _ (bounds : Bounds) (block l past bound : ℕ) (old new : ViewState) where
   pub on_found : (e : Entry) (limit : ℕ) (looked : Looked)
-      → LooksLater bounds block l past limit old new (Ok (Some e)) → IsWithin e bound looked
+      → LooksLater bounds block l past limit old new (Ok (Some e)) → IsEntryWithin e bound looked
       → LooksOn bounds block past bound old new (Ok looked)
   on_found e limit looked later within = record {
     viewed = later.viewed;
@@ -261,7 +261,7 @@ module _ (bounds : Bounds) (block l past bound : ℕ) (old new : ViewState) wher
     ends = ends looked
         within;
   } where
-    ends : (looked : Looked) → IsWithin e bound looked → OnEnds bounds block past bound old new (Ok looked)
+    ends : (looked : Looked) → IsEntryWithin e bound looked → OnEnds bounds block past bound old new (Ok looked)
     ends (Found f) (same, less) =
         let P : Entry → Type 0 = λ (a : Entry). OnEnds bounds block past bound old new (Ok (Found a)) in
         subst P (sym same) (later.ends.0, less, later.ends.1, later.ends.2)

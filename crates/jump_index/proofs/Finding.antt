@@ -8,7 +8,7 @@ use Rattle.worm_device.specs.Views.{ViewState, Viewed}
 use Rattle.jump_block.specs.declared.held_entry.Entry.{Entry}
 use Rattle.jump_index.specs.Looking.{SearchesBlock}
 use Rattle.jump_block.specs.Pointing.{HasKeyIn}
-use Rattle.jump_index.specs.Searches.{FindsGeq, HasTrail}
+use Rattle.jump_index.specs.Searches.{FindsGeq, HasBoundedTrail}
 use Rattle.jump_index.specs.declared.bounds.Bounds.{Bounds}
 use Rattle.jump_index.specs.declared.looked.Looked.TheVariants.{Found, Nothing, NoKey}
 use Rattle.jump_index.proofs.Descending.{trail_fits}
@@ -17,7 +17,7 @@ use Rattle.jump_index.proofs.Licence.{licensed}
 -- from a block whose front is empty no posting has a trail
 no_trail : (bounds : Bounds) (head : ℕ) (old new : ViewState) → Viewed old new
     → (HasKeyIn new.image head 0 (2 ^ 32) → ⊥)
-    → (at : ℕ) (p : PostingFields) → HasTrail bounds old head at p → ⊥
+    → (at : ℕ) (p : PostingFields) → HasBoundedTrail bounds old head at p → ⊥
 no_trail bounds head old new viewed none at p (here _ place is below front) =
     let now = front_on viewed.image front in
     none (record {

@@ -16,9 +16,9 @@ use Rattle.tamper_rules.specs.Rules.{Entries, HoldsInOrder, IsOfPool, LeadsWell,
 use Rattle.jump_block.specs.Fronts.{IsBadEntry, no_posting, does_not_rise}
 use Rattle.jump_block.proofs.Knowing.{front_below}
 use Rattle.jump_block.proofs.OneBlock.{in_place, jump_target, leads_wider, not_in_order}
-use Rattle.jump_index.specs.Evidence.{IsBadPointer, Shows, bad_entry, bad_pointer, no_jump, outside, no_key}
+use Rattle.jump_index.specs.Evidence.{IsBadPointer, ShowsInBlock, bad_entry, bad_pointer, no_jump, outside, no_key}
 use Rattle.jump_block.specs.Pointing.{HasFull}
-use Rattle.jump_index.specs.Searches.{IsLicensed}
+use Rattle.jump_index.specs.Searches.{IsListLicensed}
 use Rattle.jump_index.specs.declared.bounds.Bounds.{Bounds}
 
 -- a full block's front ends with its greatest key
@@ -68,7 +68,7 @@ bad_stands image block place found (does_not_rise before key p is has stands hol
 
 -- evidence that a search shows is licensed
 pub licensed : (cells : ℕ) (image : Image) (bounds : Bounds) (head : ℕ) (e : Evidence) → bounds.edge ≤ cells
-    → Shows bounds image head e → IsLicensed bounds head cells image e
+    → ShowsInBlock bounds image head e → IsListLicensed bounds head cells image e
 licensed cells image bounds head e inside (bad_entry at off leads rule cell below bad) = record {
   stands = ap image cell ∙ bad_stands image at off e.found bad;
   place = λ g l list first pool edge. (

@@ -17,7 +17,7 @@ use Rattle.jump_block.specs.declared.known_front.Front.TheVariants.{At, Open, Fu
 use Rattle.jump_block.proofs.Counting.{rose_later}
 use Rattle.jump_block.proofs.Knowing.{front_below}
 use Rattle.jump_index.specs.Evidence.{bad_entry}
-use Rattle.jump_index.specs.Looking.{BeforeEnds, EndsBefore, HereEnds, LooksBefore, LooksHere, SearchEnds}
+use Rattle.jump_index.specs.Looking.{BeforeEnds, EndsBefore, BlockLookEnds, LooksBefore, LooksAtBlock, SearchEnds}
 use Rattle.jump_index.specs.declared.bounds.Bounds.{Bounds}
 use Rattle.jump_index.specs.declared.looked.Here.{Here}
 use Rattle.jump_index.specs.declared.looked.Here.TheVariants.{Ends, Beyond}
@@ -73,7 +73,7 @@ module _ (block x low bound : ℕ) (old mid : ViewState) (from : low ≤ x) (ins
   pub past_here : (e : Entry) (new : ViewState) → FirstEnds x block old mid (Ok (At e)) → bound ≤ e.key
       → mid.base.reads ≤ old.base.reads + 137
       → (result : Result Here Fault) → LooksBefore block e.place low mid new result
-      → LooksHere block x low bound old new result
+      → LooksAtBlock block x low bound old new result
   past_here e new ends ge reads result before = record {
     viewed = viewed_then viewed before.viewed;
     reads = omega (arith, reads, before.reads);
@@ -83,7 +83,7 @@ module _ (block x low bound : ℕ) (old mid : ViewState) (from : low ≤ x) (ins
     told tells = subst IsTrue (sym viewed.called.tells) tells
 
     go : (result : Result Here Fault) → BeforeEnds block e.place low mid new result
-        → HereEnds block x low bound old new result
+        → BlockLookEnds block x low bound old new result
     go (Ok (Ends (Found f))) never = absurd never
     go (Ok (Ends Nothing)) said = λ bounds tells at p trail asked less.
         let found = ends.4 tells in
@@ -115,7 +115,7 @@ module _ (block x low bound : ℕ) (old mid : ViewState) (from : low ≤ x) (ins
   -- a blank place behind keys below x
   pub open_here : (n : ℕ) (greatest : Option ℕ) (result : Here) → FirstEnds x block old mid (Ok (Open n greatest))
       → EndsBefore greatest low result
-      → HereEnds block x low bound old mid (Ok result)
+      → BlockLookEnds block x low bound old mid (Ok result)
   open_here n greatest (Ends (Found f)) ends never = absurd never
   open_here n greatest (Ends Nothing) ends said = λ bounds tells at p trail asked less.
       let found = ends.1 tells in
@@ -134,7 +134,7 @@ module _ (block x low bound : ℕ) (old mid : ViewState) (from : low ≤ x) (ins
 
   -- a full block whose greatest key is below low
   pub low_here : (greatest : ℕ) → FirstEnds x block old mid (Ok (Full greatest)) → greatest < low
-      → HereEnds block x low bound old mid (Ok (Ends NoKey))
+      → BlockLookEnds block x low bound old mid (Ok (Ends NoKey))
   low_here greatest ends less = λ bounds tells has.
       omega (
         arith,
@@ -145,7 +145,7 @@ module _ (block x low bound : ℕ) (old mid : ViewState) (from : low ≤ x) (ins
 
   -- a fault of the look
   pub fault_here : (fault : Fault) → FirstEnds x block old mid (Err fault)
-      → HereEnds block x low bound old mid (Err fault)
+      → BlockLookEnds block x low bound old mid (Err fault)
   fault_here Failed rose = λ bounds. rose
   fault_here (Tampered e) ends = λ bounds. (
     inl ends.0,

@@ -19,7 +19,7 @@ use Rattle.jump_block.proofs.Counting.{rose_later}
 use Rattle.jump_index.specs.Evidence.{no_jump, bad_pointer, FaultShows}
 use Rattle.jump_block.specs.Pointing.{HasFull}
 use Rattle.jump_index.specs.Looking.{LooksBehind, LooksLater, PassesNone}
-use Rattle.jump_index.specs.Searches.{HasTrail, IsEntry}
+use Rattle.jump_index.specs.Searches.{HasBoundedTrail, IsListEntry}
 use Rattle.jump_index.specs.declared.bounds.Bounds.{Bounds}
 use Rattle.jump_index.proofs.Passing.{goes_through}
 
@@ -32,13 +32,13 @@ fault_then bounds block old mid new viewed (Tampered e) ends =
 
 -- a trail stays over a row of calls
 pub trail_then : (bounds : Bounds) (block at : ℕ) (p : PostingFields) (old new : ViewState) → Viewed old new
-    → HasTrail bounds old block at p → HasTrail bounds new block at p
+    → HasBoundedTrail bounds old block at p → HasBoundedTrail bounds new block at p
 trail_then bounds block at p old new viewed trail =
     let P : ℕ → Type 0 = λ n. Trail new.image bounds.pool n at p block in
     subst P (sym viewed.cells) (trail_on viewed.image trail)
 
 -- a device has the cells that it had
-pub entry_then : (old mid : ViewState) (e : Entry) → Viewed old mid → IsEntry mid.cells e → IsEntry old.cells e
+pub entry_then : (old mid : ViewState) (e : Entry) → Viewed old mid → IsListEntry mid.cells e → IsListEntry old.cells e
 entry_then old mid e viewed is = record {
   inside = omega (arith, is.inside, viewed.cells);
   place = is.place;

@@ -2,7 +2,7 @@
 use Rattle.std.proofs.Common.{sym, subst}
 use Rattle.std.specs.Prelude.{IsTrue}
 use Rattle.worm_device.specs.Views.{ViewState, Viewed}
-use Rattle.jump_block.specs.Keeping.{AreKept}
+use Rattle.jump_block.specs.Keeping.{AreFrontsKept}
 use Rattle.jump_block.specs.declared.kept_fronts.KeptFronts.{KeptFronts}
 use Rattle.jump_block.proofs.Knowing.{kept_on}
 
@@ -16,6 +16,6 @@ told_before viewed tells = subst IsTrue viewed.called.tells tells
 
 -- fronts that were kept are kept still
 pub kept_then : {old new : ViewState} {fronts : KeptFronts} → Viewed old new
-    → (IsTrue old.base.tells → AreKept old.image fronts)
-    → IsTrue old.base.tells → AreKept new.image fronts
+    → (IsTrue old.base.tells → AreFrontsKept old.image fronts)
+    → IsTrue old.base.tells → AreFrontsKept new.image fronts
 kept_then viewed kept tells = kept_on viewed.image (kept tells)

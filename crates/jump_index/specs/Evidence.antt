@@ -29,14 +29,14 @@ pub data IsBadPointer (bounds : Bounds) (image : Image) (block level digit : ℕ
 
 -- The evidence stands in a block that this one leads to, within the bounds: it is an entry out of order, or a pointer
 -- that leads nowhere.
-pub data Shows (bounds : Bounds) (image : Image) (block : ℕ) (e : Evidence) : Type 0 where
+pub data ShowsInBlock (bounds : Bounds) (image : Image) (block : ℕ) (e : Evidence) : Type 0 where
   bad_entry : (at place : ℕ) → Leads image bounds.pool bounds.edge at block → e.rule ≡ BLOCK_OUT_OF_ORDER
       → e.cell ≡ at + place → place < 128
-      → IsBadEntry image at place e.found → Shows bounds image block e
+      → IsBadEntry image at place e.found → ShowsInBlock bounds image block e
   bad_pointer : (at level digit : ℕ) → Leads image bounds.pool bounds.edge at block → e.rule ≡ LOST_POINTER
       → IsPointerPlace level digit → e.cell ≡ pointer_at at level digit → image e.cell ≡ Some e.found
       → IsBadPointer bounds image at level digit e.found
-      → Shows bounds image block e
+      → ShowsInBlock bounds image block e
 
 -- a search names one of two rules
 abbrev pub IsSearchRule : ℕ → Type 0
@@ -46,4 +46,4 @@ IsSearchRule number = (number ≡ BLOCK_OUT_OF_ORDER) ⊎ (number ≡ LOST_POINT
 abbrev pub FaultShows : Bounds → ℕ → ViewState → ViewState → Fault → Type 0
 FaultShows bounds block old new Failed = Rose old.base.faults new.base.faults
 FaultShows bounds block old new (Tampered e) =
-    IsSearchRule e.rule × (IsTrue old.base.tells → Shows bounds new.image block e)
+    IsSearchRule e.rule × (IsTrue old.base.tells → ShowsInBlock bounds new.image block e)

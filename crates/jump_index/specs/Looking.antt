@@ -12,7 +12,7 @@ use Rattle.jump_block.specs.declared.held_entry.Entry.{Entry}
 use Rattle.jump_block.specs.declared.spans.Span.{Span}
 use Rattle.jump_block.specs.Pointing.{HasKeyIn, HasFull, HasPointer}
 use Rattle.jump_index.specs.Evidence.{FaultShows}
-use Rattle.jump_index.specs.Searches.{HasTrail, IsEntry, IsEntryBehind, IsExact, IsFirst}
+use Rattle.jump_index.specs.Searches.{HasBoundedTrail, IsListEntry, IsEntryBehind, IsExact, IsFirstEntry}
 use Rattle.jump_index.specs.declared.bounds.Bounds.{Bounds}
 use Rattle.jump_index.specs.declared.looked.Here.{Here}
 use Rattle.jump_index.specs.declared.looked.Here.TheVariants.{Ends, Beyond}
@@ -22,19 +22,19 @@ use Rattle.jump_index.specs.declared.looked.Looked.TheVariants.{Found, Nothing, 
 -- no posting with a key from x up to the bound has a trail from the block
 abbrev pub PassesNone : Bounds → ℕ → ℕ → ℕ → ViewState → Type 0
 PassesNone bounds block x bound s =
-    (at : ℕ) (p : PostingFields) → HasTrail bounds s block at p → x ≤ p.key → p.key < bound → ⊥
+    (at : ℕ) (p : PostingFields) → HasBoundedTrail bounds s block at p → x ≤ p.key → p.key < bound → ⊥
 
 -- the entry is no greater than any posting with a trail from the block that has a key at or past this one
-abbrev pub IsLeast : Bounds → ℕ → ℕ → ViewState → Entry → Type 0
-IsLeast bounds block past s e =
-    (at : ℕ) (p : PostingFields) → HasTrail bounds s block at p → past ≤ p.key → e.key ≤ p.key
+abbrev pub IsLeastEntry : Bounds → ℕ → ℕ → ViewState → Entry → Type 0
+IsLeastEntry bounds block past s e =
+    (at : ℕ) (p : PostingFields) → HasBoundedTrail bounds s block at p → past ≤ p.key → e.key ≤ p.key
 
 -- A search from a block that a pointer led to, whose span is from low up to the bound: the first entry with a key of
 -- the span at or past x, no such entry, or no key of the span at all.
 abbrev pub SearchEnds : Bounds → ℕ → ℕ → ℕ → ℕ → ViewState → ViewState → Result Looked Fault → Type 0
 SearchEnds bounds block x low bound old new (Ok (Found e)) =
-    (x ≤ e.key) × (e.key < bound) × IsEntry old.cells e
-    × (IsTrue old.base.tells → IsEntryBehind bounds new.image block e × IsFirst bounds block x old e
+    (x ≤ e.key) × (e.key < bound) × IsListEntry old.cells e
+    × (IsTrue old.base.tells → IsEntryBehind bounds new.image block e × IsFirstEntry bounds block x old e
     × IsExact bounds block x new e × HasKeyIn new.image block low bound)
 SearchEnds bounds block x low bound old new (Ok Nothing) = IsTrue old.base.tells → PassesNone bounds block x bound old
 SearchEnds bounds block x low bound old new (Ok NoKey) = IsTrue old.base.tells → HasKeyIn new.image block low bound → ⊥
@@ -47,17 +47,17 @@ pub record SearchesBlock (bounds : Bounds) (block x low bound level : ℕ) (old 
   pub ends : SearchEnds bounds block x low bound old new result
 
 -- a look into one block, whatever the bounds
-abbrev pub HereEnds : ℕ → ℕ → ℕ → ℕ → ViewState → ViewState → Result Here Fault → Type 0
-HereEnds block x low bound old new (Ok (Ends looked)) =
+abbrev pub BlockLookEnds : ℕ → ℕ → ℕ → ℕ → ViewState → ViewState → Result Here Fault → Type 0
+BlockLookEnds block x low bound old new (Ok (Ends looked)) =
     (bounds : Bounds) → SearchEnds bounds block x low bound old new (Ok looked)
-HereEnds block x low bound old new (Ok (Beyond l)) =
+BlockLookEnds block x low bound old new (Ok (Beyond l)) =
     (low ≤ l) × (l < x) × (IsTrue old.base.tells → HasFull new.image block l)
-HereEnds block x low bound old new (Err fault) = (bounds : Bounds) → FaultShows bounds block old new fault
+BlockLookEnds block x low bound old new (Err fault) = (bounds : Bounds) → FaultShows bounds block old new fault
 
-pub record LooksHere (block x low bound : ℕ) (old new : ViewState) (result : Result Here Fault) : Type 0 where
+pub record LooksAtBlock (block x low bound : ℕ) (old new : ViewState) (result : Result Here Fault) : Type 0 where
   pub viewed : Viewed old new
   pub reads : new.base.reads ≤ old.base.reads + 138
-  pub ends : HereEnds block x low bound old new result
+  pub ends : BlockLookEnds block x low bound old new result
 
 -- whether the key before this place, where there is one, is at or past low
 abbrev pub BeforeEnds : ℕ → ℕ → ℕ → ViewState → ViewState → Result Here Fault → Type 0
@@ -87,8 +87,8 @@ EndsBefore greatest low (Beyond l) = ⊥
 -- a look behind one pointer
 abbrev pub BehindEnds : Bounds → ℕ → Span → ViewState → ViewState → Result (Option Entry) Fault → Type 0
 BehindEnds bounds block span old new (Ok (Some e)) =
-    (span.low ≤ e.key) × (e.key < span.high) × IsEntry old.cells e
-    × (IsTrue old.base.tells → IsEntryBehind bounds new.image block e × IsLeast bounds block span.low old e)
+    (span.low ≤ e.key) × (e.key < span.high) × IsListEntry old.cells e
+    × (IsTrue old.base.tells → IsEntryBehind bounds new.image block e × IsLeastEntry bounds block span.low old e)
 BehindEnds bounds block span old new (Ok None) = ⊥
 BehindEnds bounds block span old new (Err fault) = FaultShows bounds block old new fault
 
@@ -101,8 +101,8 @@ pub record LooksBehind (bounds : Bounds) (block l : ℕ) (span : Span) (target :
 -- a look behind the later pointers
 abbrev pub LaterEnds : Bounds → ℕ → ℕ → ℕ → ViewState → ViewState → Result (Option Entry) Fault → Type 0
 LaterEnds bounds block past bound old new (Ok (Some e)) =
-    (past ≤ e.key) × IsEntry old.cells e
-    × (IsTrue old.base.tells → IsEntryBehind bounds new.image block e × IsLeast bounds block past old e)
+    (past ≤ e.key) × IsListEntry old.cells e
+    × (IsTrue old.base.tells → IsEntryBehind bounds new.image block e × IsLeastEntry bounds block past old e)
 LaterEnds bounds block past bound old new (Ok None) = IsTrue old.base.tells → PassesNone bounds block past bound old
 LaterEnds bounds block past bound old new (Err fault) = FaultShows bounds block old new fault
 
@@ -115,8 +115,8 @@ pub record LooksLater (bounds : Bounds) (block l past bound : ℕ) (old new : Vi
 -- the same, for a key below the bound
 abbrev pub OnEnds : Bounds → ℕ → ℕ → ℕ → ViewState → ViewState → Result Looked Fault → Type 0
 OnEnds bounds block past bound old new (Ok (Found e)) =
-    (past ≤ e.key) × (e.key < bound) × IsEntry old.cells e
-    × (IsTrue old.base.tells → IsEntryBehind bounds new.image block e × IsLeast bounds block past old e)
+    (past ≤ e.key) × (e.key < bound) × IsListEntry old.cells e
+    × (IsTrue old.base.tells → IsEntryBehind bounds new.image block e × IsLeastEntry bounds block past old e)
 OnEnds bounds block past bound old new (Ok Nothing) = IsTrue old.base.tells → PassesNone bounds block past bound old
 OnEnds bounds block past bound old new (Ok NoKey) = ⊥
 OnEnds bounds block past bound old new (Err fault) = FaultShows bounds block old new fault
@@ -143,7 +143,7 @@ pub record FirstPointer (bounds : Bounds) (block : ℕ) (s : Span) (old new : Vi
   pub ends : FirstPointerEnds bounds block s old new result
 
 -- the entry, where its key is below the bound
-abbrev pub IsWithin : Entry → ℕ → Looked → Type 0
-IsWithin e bound (Found f) = (f ≡ e) × (e.key < bound)
-IsWithin e bound Nothing = bound ≤ e.key
-IsWithin e bound NoKey = ⊥
+abbrev pub IsEntryWithin : Entry → ℕ → Looked → Type 0
+IsEntryWithin e bound (Found f) = (f ≡ e) × (e.key < bound)
+IsEntryWithin e bound Nothing = bound ≤ e.key
+IsEntryWithin e bound NoKey = ⊥

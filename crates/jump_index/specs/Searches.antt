@@ -17,11 +17,11 @@ use Rattle.jump_index.specs.Evidence.{IsSearchRule}
 use Rattle.jump_index.specs.declared.bounds.Bounds.{Bounds}
 
 -- the posting in the cell at has a trail from the block, where the pool begins as the bounds do
-abbrev pub HasTrail : Bounds → ViewState → ℕ → ℕ → PostingFields → Type 0
-HasTrail bounds s block at p = Trail s.image bounds.pool s.cells at p block
+abbrev pub HasBoundedTrail : Bounds → ViewState → ℕ → ℕ → PostingFields → Type 0
+HasBoundedTrail bounds s block at p = Trail s.image bounds.pool s.cells at p block
 
 -- a posting of a block of a device of so many cells
-pub record IsEntry (cells : ℕ) (e : Entry) : Type 0 where
+pub record IsListEntry (cells : ℕ) (e : Entry) : Type 0 where
   pub inside : e.block + 256 ≤ cells
   pub place : e.place < 128
   pub last : e.key % 256 ≤ e.last
@@ -34,19 +34,19 @@ pub record IsEntryBehind (bounds : Bounds) (image : Image) (block : ℕ) (e : En
 
 -- No posting with a trail from the block has a key from x up to this entry's, and where one has the key x, it is this
 -- entry.
-abbrev pub IsFirst : Bounds → ℕ → ℕ → ViewState → Entry → Type 0
-IsFirst bounds block x s e =
-    (at : ℕ) (p : PostingFields) → HasTrail bounds s block at p → x ≤ p.key
+abbrev pub IsFirstEntry : Bounds → ℕ → ℕ → ViewState → Entry → Type 0
+IsFirstEntry bounds block x s e =
+    (at : ℕ) (p : PostingFields) → HasBoundedTrail bounds s block at p → x ≤ p.key
     → (e.key ≤ p.key) × (p.key ≡ x → (at ≡ cell_of e) × (p ≡ posting_of e))
 
 -- where the entry has the key x, it has a trail from the block
 abbrev pub IsExact : Bounds → ℕ → ℕ → ViewState → Entry → Type 0
-IsExact bounds block x s e = e.key ≡ x → HasTrail bounds s block (cell_of e) (posting_of e)
+IsExact bounds block x s e = e.key ≡ x → HasBoundedTrail bounds s block (cell_of e) (posting_of e)
 
 -- The licence of evidence, on an image of so many cells. It stands there. Where the search began at the first block of
 -- a list, and the bounds at the pool's start, the cell is a place of the rule; where besides the volume is the one in
 -- cell 0, and the bounds end at an edge of the image, the rule is broken there.
-pub record IsLicensed (bounds : Bounds) (head cells : ℕ) (image : Image) (e : Evidence) : Type 0 where
+pub record IsListLicensed (bounds : Bounds) (head cells : ℕ) (image : Image) (e : Evidence) : Type 0 where
   pub stands : image e.cell ≡ Some e.found
   pub place : (g : Layout) (l : ℕ) → l < all_lists g → head ≡ list_at g l → bounds.pool ≡ pool_at g → bounds.edge ≤ g.cells
       → HasPlace g e
@@ -55,20 +55,20 @@ pub record IsLicensed (bounds : Bounds) (head cells : ℕ) (image : Image) (e : 
 
 -- How a search of a list may end. Of the postings that have a trail from the list's first block at entry none is
 -- passed. A fault is one of the device, or names evidence of this list.
-abbrev pub FindEnds : Bounds → ℕ → ℕ → ViewState → ViewState → Result (Option Entry) Fault → Type 0
-FindEnds bounds head x old new (Ok (Some e)) =
-    (x ≤ e.key) × IsEntry old.cells e
-    × (IsTrue old.base.tells → IsEntryBehind bounds new.image head e × IsFirst bounds head x old e
+abbrev pub FindEntryEnds : Bounds → ℕ → ℕ → ViewState → ViewState → Result (Option Entry) Fault → Type 0
+FindEntryEnds bounds head x old new (Ok (Some e)) =
+    (x ≤ e.key) × IsListEntry old.cells e
+    × (IsTrue old.base.tells → IsEntryBehind bounds new.image head e × IsFirstEntry bounds head x old e
     × IsExact bounds head x new e)
-FindEnds bounds head x old new (Ok None) =
-    IsTrue old.base.tells → (at : ℕ) (p : PostingFields) → HasTrail bounds old head at p → x ≤ p.key → ⊥
-FindEnds bounds head x old new (Err Failed) = Rose old.base.faults new.base.faults
-FindEnds bounds head x old new (Err (Tampered e)) =
-    IsSearchRule e.rule × (IsTrue old.base.tells → IsLicensed bounds head new.cells new.image e)
+FindEntryEnds bounds head x old new (Ok None) =
+    IsTrue old.base.tells → (at : ℕ) (p : PostingFields) → HasBoundedTrail bounds old head at p → x ≤ p.key → ⊥
+FindEntryEnds bounds head x old new (Err Failed) = Rose old.base.faults new.base.faults
+FindEntryEnds bounds head x old new (Err (Tampered e)) =
+    IsSearchRule e.rule × (IsTrue old.base.tells → IsListLicensed bounds head new.cells new.image e)
 
 -- a search costs 4,096 reads at most
 pub record FindsGeq (bounds : Bounds) (head x : ℕ) (old new : ViewState) (result : Result (Option Entry) Fault)
     : Type 0 where
   pub viewed : Viewed old new
   pub reads : new.base.reads ≤ old.base.reads + 4096
-  pub ends : FindEnds bounds head x old new result
+  pub ends : FindEntryEnds bounds head x old new result

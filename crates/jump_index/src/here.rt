@@ -1,8 +1,8 @@
 //! A look into one block.
 ghost use Rattle.std.specs.Prelude.{◌<◌, ◌≤◌, ◌+◌, IsTrue};
 ghost use Rattle.volume_meaning.specs.declared.blocks.TheConstants.{BLOCK_CELLS, ENTRY_PLACES};
-ghost use Rattle.jump_block.specs.Keeping.{AreKept};
-ghost use Rattle.jump_index.specs.Looking.{EndsBefore, LooksBefore, LooksHere};
+ghost use Rattle.jump_block.specs.Keeping.{AreFrontsKept};
+ghost use Rattle.jump_index.specs.Looking.{EndsBefore, LooksBefore, LooksAtBlock};
 
 use crate::looked::{Here, Looked};
 use cell_types::Fault;
@@ -21,12 +21,12 @@ pub(crate) fn look_here<V: View>(
     level: u8,
 ) -> Result<Here, Fault>
     requires inside { block + BLOCK_CELLS ≤ (V.seen view.old).cells }
-    requires kept { IsTrue (V.seen view.old).base.tells → AreKept (V.seen view.old).image fronts.old }
+    requires kept { IsTrue (V.seen view.old).base.tells → AreFrontsKept (V.seen view.old).image fronts.old }
     requires from { low ≤ x }
     requires below { x < bound }
     requires level { level ≤ 8 }
-    ensures kept { IsTrue (V.seen view.old).base.tells → AreKept (V.seen view.new).image fronts.new }
-    ensures looks { LooksHere block x low bound (V.seen view.old) (V.seen view.new) result }
+    ensures kept { IsTrue (V.seen view.old).base.tells → AreFrontsKept (V.seen view.new).image fronts.new }
+    ensures looks { LooksAtBlock block x low bound (V.seen view.old) (V.seen view.new) result }
 {
     let first = first_from_kept(view, fronts, usize::from(level), block, x)?;
     match first {

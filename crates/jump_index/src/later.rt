@@ -1,7 +1,7 @@
 //! The later spans of a block.
 ghost use Rattle.std.specs.Prelude.{◌<◌, ◌≤◌, ◌+◌, ◌^◌, IsTrue};
 ghost use Rattle.volume_meaning.specs.declared.blocks.TheConstants.{BLOCK_CELLS};
-ghost use Rattle.jump_block.specs.Keeping.{AreKept};
+ghost use Rattle.jump_block.specs.Keeping.{AreFrontsKept};
 ghost use Rattle.jump_block.specs.Spans.{IsSpan};
 ghost use Rattle.jump_block.specs.Pointing.{HasFull, HasPointer, IsPointerEvidence};
 ghost use Rattle.jump_index.specs.Looking.{LooksBehind, LooksLater};
@@ -24,11 +24,11 @@ pub(crate) fn look_later<V: View>(
 ) -> Result<Option<Entry>, Fault>
     requires inside { block + BLOCK_CELLS ≤ (V.seen view.old).cells }
     requires edge { bounds.edge ≤ (V.seen view.old).cells }
-    requires kept { IsTrue (V.seen view.old).base.tells → AreKept (V.seen view.old).image fronts.old }
+    requires kept { IsTrue (V.seen view.old).base.tells → AreFrontsKept (V.seen view.old).image fronts.old }
     requires bound { bound ≤ 2 ^ 32 }
     requires span { IsSpan l after }
     requires full { IsTrue (V.seen view.old).base.tells → HasFull (V.seen view.old).image block l }
-    ensures kept { IsTrue (V.seen view.old).base.tells → AreKept (V.seen view.new).image fronts.new }
+    ensures kept { IsTrue (V.seen view.old).base.tells → AreFrontsKept (V.seen view.new).image fronts.new }
     ensures looks { LooksLater bounds block l after.high bound (V.seen view.old) (V.seen view.new) result }
 {
     let mut span = after;
@@ -55,13 +55,13 @@ fn look_behind<V: View>(
 ) -> Result<Option<Entry>, Fault>
     requires inside { block + BLOCK_CELLS ≤ (V.seen view.old).cells }
     requires edge { bounds.edge ≤ (V.seen view.old).cells }
-    requires kept { IsTrue (V.seen view.old).base.tells → AreKept (V.seen view.old).image fronts.old }
+    requires kept { IsTrue (V.seen view.old).base.tells → AreFrontsKept (V.seen view.old).image fronts.old }
     requires below { span.low < 2 ^ 32 }
     requires span { IsSpan l span }
     requires full { IsTrue (V.seen view.old).base.tells → HasFull (V.seen view.old).image block l }
     requires jump { IsTrue (V.seen view.old).base.tells →
         HasPointer (V.seen view.old).image block span.level span.digit target }
-    ensures kept { IsTrue (V.seen view.old).base.tells → AreKept (V.seen view.new).image fronts.new }
+    ensures kept { IsTrue (V.seen view.old).base.tells → AreFrontsKept (V.seen view.new).image fronts.new }
     ensures looks { LooksBehind bounds block l span target (V.seen view.old) (V.seen view.new) result }
 {
     if target < bounds.pool || u64::from(target) + 256 > u64::from(bounds.edge) {

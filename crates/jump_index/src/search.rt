@@ -1,10 +1,10 @@
 //! The search of a list.
 ghost use Rattle.std.specs.Prelude.{◌<◌, ◌≤◌, ◌+◌, ◌^◌, IsTrue};
 ghost use Rattle.volume_meaning.specs.declared.blocks.TheConstants.{BLOCK_CELLS};
-ghost use Rattle.jump_block.specs.Keeping.{AreKept};
+ghost use Rattle.jump_block.specs.Keeping.{AreFrontsKept};
 ghost use Rattle.jump_block.specs.Spans.{IsSpan};
 ghost use Rattle.jump_block.specs.Pointing.{HasFull};
-ghost use Rattle.jump_index.specs.Looking.{FirstPointer, IsWithin, LooksOn, SearchesBlock};
+ghost use Rattle.jump_index.specs.Looking.{FirstPointer, IsEntryWithin, LooksOn, SearchesBlock};
 ghost use Rattle.jump_index.specs.Searches.{FindsGeq};
 
 use crate::bounds::Bounds;
@@ -42,8 +42,8 @@ pub fn find_geq_from_kept<V: View>(
 ) -> Result<Option<Entry>, Fault>
     requires head { head + BLOCK_CELLS ≤ (V.seen view.old).cells }
     requires edge { bounds.edge ≤ (V.seen view.old).cells }
-    requires kept { IsTrue (V.seen view.old).base.tells → AreKept (V.seen view.old).image fronts.old }
-    ensures kept { IsTrue (V.seen view.old).base.tells → AreKept (V.seen view.new).image fronts.new }
+    requires kept { IsTrue (V.seen view.old).base.tells → AreFrontsKept (V.seen view.old).image fronts.old }
+    ensures kept { IsTrue (V.seen view.old).base.tells → AreFrontsKept (V.seen view.new).image fronts.new }
     ensures finds { FindsGeq bounds head x (V.seen view.old) (V.seen view.new) result }
 {
     match search(view, fronts, bounds, head, x, 0, 1 << 32, 8) {
@@ -69,12 +69,12 @@ fn search<V: View>(
 ) -> Result<Looked, Fault>
     requires inside { block + BLOCK_CELLS ≤ (V.seen view.old).cells }
     requires edge { bounds.edge ≤ (V.seen view.old).cells }
-    requires kept { IsTrue (V.seen view.old).base.tells → AreKept (V.seen view.old).image fronts.old }
+    requires kept { IsTrue (V.seen view.old).base.tells → AreFrontsKept (V.seen view.old).image fronts.old }
     requires narrow { bound ≤ low + 16 ^ level }
     requires from { low ≤ x }
     requires below { x < bound }
     requires level { level ≤ 8 }
-    ensures kept { IsTrue (V.seen view.old).base.tells → AreKept (V.seen view.new).image fronts.new }
+    ensures kept { IsTrue (V.seen view.old).base.tells → AreFrontsKept (V.seen view.new).image fronts.new }
     ensures looks { SearchesBlock bounds block x low bound level (V.seen view.old) (V.seen view.new) result }
 {
     let here = look_here(view, fronts, block, x, low, bound, level)?;
@@ -116,10 +116,10 @@ fn look_on<V: View>(
 ) -> Result<Looked, Fault>
     requires inside { block + BLOCK_CELLS ≤ (V.seen view.old).cells }
     requires edge { bounds.edge ≤ (V.seen view.old).cells }
-    requires kept { IsTrue (V.seen view.old).base.tells → AreKept (V.seen view.old).image fronts.old }
+    requires kept { IsTrue (V.seen view.old).base.tells → AreFrontsKept (V.seen view.old).image fronts.old }
     requires span { IsSpan l first }
     requires full { IsTrue (V.seen view.old).base.tells → HasFull (V.seen view.old).image block l }
-    ensures kept { IsTrue (V.seen view.old).base.tells → AreKept (V.seen view.new).image fronts.new }
+    ensures kept { IsTrue (V.seen view.old).base.tells → AreFrontsKept (V.seen view.new).image fronts.new }
     ensures looks { LooksOn bounds block first.high bound (V.seen view.old) (V.seen view.new) result }
 {
     match look_later(view, fronts, bounds, block, l, first, bound.min(1 << 32)) {
@@ -131,7 +131,7 @@ fn look_on<V: View>(
 
 /// The entry, where its key is below the bound.
 fn within(entry: Entry, bound: u64) -> Looked
-    ensures { IsWithin entry bound result }
+    ensures { IsEntryWithin entry bound result }
 {
     if u64::from(entry.key) < bound {
         Looked::Found(entry)

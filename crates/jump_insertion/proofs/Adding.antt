@@ -15,7 +15,7 @@ use Rattle.jump_block.specs.declared.spans.Span.{Span}
 use Rattle.jump_block.proofs.Knowing.{key_on}
 use Rattle.jump_block.specs.Pointing.{HasFull, HasPointer}
 use Rattle.cell_pool.specs.declared.fault.GrowthFault.{GrowthFault}
-use Rattle.jump_insertion.specs.Growing.{Steps, ends, hops, PutsTwo, Grows, in_block, in_tail, in_new_block, IsLast, IsLastFull}
+use Rattle.jump_insertion.specs.Growing.{LeadsOnBy, ends, hops, PutsTwo, Grows, in_block, in_tail, in_new_block, IsLastBlock, IsLastFull}
 use Rattle.jump_insertion.specs.Placing.{GrowEnds}
 use Rattle.jump_insertion.specs.Planning.{PutsRecord, PutsBoth}
 use Rattle.jump_insertion.specs.declared.entries.Spot.{Spot}
@@ -94,7 +94,7 @@ grows_both head floor next to block l cost p s low bound old mid new spot owner 
 -- the tail has a blank place
 pub grown_in_tail : (floor next block : ℕ) (p : PostingFields) (mid new : ViewState) (spot : Spot)
     → Leads mid.image floor next spot.block block → floor ≤ spot.block → spot.block + 256 ≤ next
-    → IsLast mid.image floor next block p.key spot.block
+    → IsLastBlock mid.image floor next block p.key spot.block
     → PutsTwo mid.image new.image block spot.block spot.place p → Grows mid.image new.image floor next next block p 2
 grown_in_tail floor next block p mid new spot led from to last puts =
     in_tail block spot.block spot.place (ends block refl) puts led from to last refl refl
@@ -122,7 +122,7 @@ grow_then floor next to block p old mid new viewed later (Ok None) grown = tt
 grow_then floor next to block p old mid new viewed later (Err fault) grown = tt
 
 grows_hop : {old new : Image} {floor next to block target : ℕ} {p : PostingFields} {cost : ℕ}
-    → Steps old floor next block p.key target → Grows old new floor next to target p cost
+    → LeadsOnBy old floor next block p.key target → Grows old new floor next to target p cost
     → Grows old new floor next to block p cost
 grows_hop {block = block} {target = target} step (in_block last place walk below adds holds rises same cost_is) =
     in_block last place (hops block target step walk) below adds holds rises same cost_is
@@ -146,7 +146,7 @@ grow_behind floor next to block l target p s old mid new spot is span_from span_
     let P : Image → Type 0 = λ i. Grows i new.image floor next to block p g.0 in
     let S : ℕ → Type 0 = λ n. InSpan n s.level s.digit p.key in
     let f = full tells in
-    let step : Steps mid.image floor next block p.key target = record {
+    let step : LeadsOnBy mid.image floor next block p.key target = record {
       greatest = f.p;
       full = f.in_front;
       level = s.level;

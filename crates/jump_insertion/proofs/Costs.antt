@@ -10,17 +10,17 @@ use Rattle.volume_meaning.proofs.Spans.{span_above}
 use Rattle.volume_meaning.proofs.Trails.{one_target}
 use Rattle.tamper_rules.proofs.GivenUp.{jumps, leads_further}
 use Rattle.tamper_rules.proofs.Writing.{same_or_not}
-use Rattle.ingest_laws.specs.ListShapes.{IsWellListed, Adds}
+use Rattle.ingest_laws.specs.ListShapes.{IsWellListed, AddsOneCell}
 use Rattle.ingest_laws.specs.Needs as needs
 use Rattle.ingest_laws.specs.Needs.{IsBlankEntry, EndsAtPointer, WalksTo, IsTail, AddsBoth, PostingCosts, TrailTo, at_end, through}
 use Rattle.ingest_laws.proofs.TrailEnds.{end_front, of_end, one_end, to_end}
 use Rattle.jump_block.proofs.Knowing.{front_below}
-use Rattle.jump_insertion.specs.Costs.{HaveTrails, HaveKeysBelow}
-use Rattle.jump_insertion.specs.Growing.{Steps, Walks, ends, hops, Rises, PutsTwo, IsTop, IsLast, IsLastFull, Grows, in_block, in_tail, in_new_block}
+use Rattle.jump_insertion.specs.Costs.{ListHasTrails, HaveKeysBelow}
+use Rattle.jump_insertion.specs.Growing.{LeadsOnBy, WalksBlocks, ends, hops, RisesInFront, PutsTwo, IsTop, IsLastBlock, IsLastFull, Grows, in_block, in_tail, in_new_block}
 use Rattle.jump_insertion.proofs.Greatest.{trail_listed, front_end, greatest_from}
 
 -- a walk goes along the list
-pub walk_leads : {image : Image} {from to key last block head : ℕ} → Walks image from to key last block
+pub walk_leads : {image : Image} {from to key last block head : ℕ} → WalksBlocks image from to key last block
     → Leads image from to block head → Leads image from to last head
 walk_leads {image} {from} {to} {key} {last} {block} {head} (ends _ same) there =
     subst (λ (b : ℕ). Leads image from to b head) same there
@@ -29,7 +29,7 @@ walk_leads (hops block target step rest) there =
     step.jump step.inside_from step.inside_to)
 
 -- and is a walk wherever blocks may lie
-walks_to : {image : Image} {from to key last block : ℕ} → Walks image from to key last block
+walks_to : {image : Image} {from to key last block : ℕ} → WalksBlocks image from to key last block
     → WalksTo image key last block
 walks_to (ends block same) = needs.arrived block same
 walks_to (hops block target step rest) = needs.onwards block target
@@ -44,7 +44,7 @@ walks_to (hops block target step rest) = needs.onwards block target
     (walks_to rest)
 
 -- where a walk ends at a full block it begins at one
-begins_full : {image : Image} {from to key last block : ℕ} {f : PostingFields} → Walks image from to key last block
+begins_full : {image : Image} {from to key last block : ℕ} {f : PostingFields} → WalksBlocks image from to key last block
     → IsFull image last f → (g : PostingFields) × IsFull image block g
 begins_full {image} {from} {to} {key} {last} {block} {f} (ends _ same) full =
     (f, subst (λ (b : ℕ). IsFull image b f) (sym same) full)
@@ -57,8 +57,8 @@ front_written {image} {block} {j} {i} front le =
     let h = front_holds (front_below front i le).1 in record { found = h.cell; stands = h.stands }
 
 -- a blank place behind a front is its block's first
-first_blank : {old new : Image} {block place key : ℕ} → place < 128 → Adds (block + place) old new
-    → Rises old block place key → IsBlankEntry old block place
+first_blank : {old new : Image} {block place key : ℕ} → place < 128 → AddsOneCell (block + place) old new
+    → RisesInFront old block place key → IsBlankEntry old block place
 first_blank {old} {new} {block} {place} {key} below adds rises = record {
   in_places = below;
   blank = adds.was;
@@ -71,7 +71,7 @@ first_blank {old} {new} {block} {place} {key} below adds rises = record {
 -- the pointer's span, so the greatest lies in this span too.
 module _ {image : Image} {floor next head end place key : ℕ} {q : PostingFields} (top : IsTop image floor next head q)
     (less : q.key < key) where
-  step_through : {block target : ℕ} → Steps image floor next block key target → Leads image floor next block head
+  step_through : {block target : ℕ} → LeadsOnBy image floor next block key target → Leads image floor next block head
       → TrailTo image floor next end place q block → TrailTo image floor next end place q target
   step_through {block} {target} step leads gone =
       let p = top.listed.pointers block step.level step.digit leads step.span.levels step.span.some step.span.digits
@@ -119,7 +119,7 @@ module _ {image : Image} {floor next head end place key : ℕ} {q : PostingField
       by_step hop (through _ other next_hop rest) =
           subst (λ (b : ℕ). TrailTo image floor next end place q b) (one_target next_hop hop) rest
 
-  pub trail_through : {last block : ℕ} → Walks image floor next key last block → Leads image floor next block head
+  pub trail_through : {last block : ℕ} → WalksBlocks image floor next key last block → Leads image floor next block head
       → TrailTo image floor next end place q block → TrailTo image floor next end place q last
   trail_through (ends block same) leads trail =
       subst (λ (b : ℕ). TrailTo image floor next end place q b) same trail
@@ -137,10 +137,10 @@ record IsGreatest (image : Image) (floor next head end place : ℕ) (q : Posting
   most : (cell : ℕ) (r : PostingFields) → Trail image floor next cell r head → r.key ≤ q.key
 
 module _ {old : Image} {floor next head key : ℕ} (w : IsWellListed old floor next head)
-    (trails : HaveTrails old floor next head) (less : HaveKeysBelow old floor next head key)
+    (trails : ListHasTrails old floor next head) (less : HaveKeysBelow old floor next head key)
     (small : key < 2 ^ 32) where
   -- where a walk ends at a full block, the list has one
-  the_greatest : {home : ℕ} {f : PostingFields} → Walks old floor next key home head → IsFull old home f
+  the_greatest : {home : ℕ} {f : PostingFields} → WalksBlocks old floor next key home head → IsFull old home f
       → (end : ℕ) × (place : ℕ) × (q : PostingFields) × IsGreatest old floor next head end place q key
   the_greatest walk full =
       let head_full = begins_full walk full in
@@ -168,7 +168,7 @@ module _ {old : Image} {floor next head key : ℕ} (w : IsWellListed old floor n
       )
 
   -- its trail goes through the block at which the walk ends, and ends where the trail from there does
-  module _ {home : ℕ} {f : PostingFields} (walk : Walks old floor next key home head) (full : IsFull old home f) where
+  module _ {home : ℕ} {f : PostingFields} (walk : WalksBlocks old floor next key home head) (full : IsFull old home f) where
     abbrev end : ℕ
     end = (the_greatest walk full).0
 
@@ -194,7 +194,7 @@ module _ {old : Image} {floor next head key : ℕ} (w : IsWellListed old floor n
     }
 
     -- the tail where this has room
-    last_is_tail : {last : ℕ} → IsLast old floor next home key last → IsTail old floor next head last
+    last_is_tail : {last : ℕ} → IsLastBlock old floor next home key last → IsTail old floor next head last
     last_is_tail {last} is_last =
         let ended = is_last head (end + place) q g.top (walk_leads walk (arrived head refl)) g.less (of_end from_home) in
         tail_at last ended.place ended.trail
@@ -232,7 +232,7 @@ adds_both : {old new : Image} {home target place at : ℕ} {p : PostingFields}
     → AddsBoth old new at (pointer_at home puts.level puts.digit) target p
 adds_both {old} {new} {p = p} puts is = record {
   mid = puts.mid;
-  adds = subst (λ (c : ℕ). Adds c old puts.mid) (sym is) puts.adds;
+  adds = subst (λ (c : ℕ). AddsOneCell c old puts.mid) (sym is) puts.adds;
   posting = subst (λ (c : ℕ). Holds puts.mid c (posting_record p)) (sym is) puts.posting;
   adds_jump = puts.adds_jump;
   jump = puts.jump;
@@ -244,7 +244,7 @@ small_key h = h.is.fits.0
 
 -- whichever way the list grows
 pub posting_costs : {old new : Image} {floor next to head cost : ℕ} {p : PostingFields}
-    → IsWellListed old floor next head → HaveTrails old floor next head → HaveKeysBelow old floor next head p.key
+    → IsWellListed old floor next head → ListHasTrails old floor next head → HaveKeysBelow old floor next head p.key
     → Grows old new floor next to head p cost → PostingCosts floor head p old new next to cost
 posting_costs w trails less (in_block last place walk below adds holds rises to_is cost_is) =
     needs.in_block last place (walks_to walk) (first_blank below adds rises) adds holds to_is cost_is

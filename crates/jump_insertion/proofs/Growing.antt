@@ -8,13 +8,13 @@ use Rattle.volume_meaning.specs.Blocks.{PostingFields, posting_record, InFront, 
 use Rattle.volume_meaning.proofs.Fronts.{front_on, front_holds}
 use Rattle.tamper_rules.specs.Rules.{HoldsInOrder}
 use Rattle.tamper_rules.proofs.GivenUp.{leads_further}
-use Rattle.ingest_laws.specs.ListShapes.{IsWellListed, Adds, IsNewBlock}
+use Rattle.ingest_laws.specs.ListShapes.{IsWellListed, AddsOneCell, IsNewBlock}
 use Rattle.ingest_laws.proofs.ListShapes.{adds_extends, well_apart, well_wider, well_with_entry, well_with_jump, back}
-use Rattle.jump_insertion.specs.Growing.{Walks, ends, hops, Rises, PutsTwo, Grows, in_block, in_tail, in_new_block}
+use Rattle.jump_insertion.specs.Growing.{WalksBlocks, ends, hops, RisesInFront, PutsTwo, Grows, in_block, in_tail, in_new_block}
 use Rattle.jump_insertion.proofs.Showing.{leads_on}
 
 -- the next place of a front
-pub next_front : (image : Image) (block place : ℕ) (p : PostingFields) → Rises image block place p.key
+pub next_front : (image : Image) (block place : ℕ) (p : PostingFields) → RisesInFront image block place p.key
     → Holds image (block + place) (posting_record p) → InFront image block place p
 next_front image block place p rises holds = ⊎_elim
     (λ first. at_the_start place p first holds)
@@ -25,7 +25,7 @@ next_front image block place p rises holds = ⊎_elim
     (cases_eq place 0)
 
 -- a walk goes along the list
-walks_lead : {image : Image} {from to key last block head : ℕ} → Walks image from to key last block
+walks_lead : {image : Image} {from to key last block head : ℕ} → WalksBlocks image from to key last block
     → Leads image from to block head → Leads image from to last head
 walks_lead {image} {from} {to} {key} {last} {block} {head} (ends _ same) there =
     subst (λ (b : ℕ). Leads image from to b head) same there
@@ -46,7 +46,7 @@ pub leads_below : {image : Image} {from to last head : ℕ} → Leads image from
 leads_below (arrived head same) below = omega (arith, same, below)
 leads_below (onwards head level digit target l s d jump f t rest) below = leads_below rest t
 
-before_holds : (image : Image) (block place key : ℕ) → Rises image block place key
+before_holds : (image : Image) (block place key : ℕ) → RisesInFront image block place key
     → (place ≡ 0) ⊎ ((before : ℕ) × (q : PostingFields) × (place ≡ before + 1)
     × Holds image (block + before) (posting_record q) × (q.key < key))
 before_holds image block place key rises = ⊎_elim
@@ -58,8 +58,8 @@ before_holds image block place key rises = ⊎_elim
     (cases_eq place 0)
 
 -- the posting's own place is in its block's front
-placed : {old new : Image} {block place : ℕ} {p : PostingFields} → Adds (block + place) old new
-    → Holds new (block + place) (posting_record p) → Rises old block place p.key → InFront new block place p
+placed : {old new : Image} {block place : ℕ} {p : PostingFields} → AddsOneCell (block + place) old new
+    → Holds new (block + place) (posting_record p) → RisesInFront old block place p.key → InFront new block place p
 placed {old} {new} {block} {place} {p} adds holds rises =
     next_front new block place p (λ before is. let h =
     rises before is in (h.0, front_on (adds_extends adds) h.1, h.2)) holds
@@ -73,13 +73,13 @@ widened (onwards block level digit target l s d jump f t rest) =
 module _ {old new : Image} {floor next head : ℕ} {p : PostingFields} (w : IsWellListed old floor next head)
     (roomy : floor ≤ next) where
   -- a blank place of a block
-  well_in_block : (last place : ℕ) → Walks old floor next p.key last head → place < 128 → Adds (last + place) old new
-      → Holds new (last + place) (posting_record p) → Rises old last place p.key → IsWellListed new floor next head
+  well_in_block : (last place : ℕ) → WalksBlocks old floor next p.key last head → place < 128 → AddsOneCell (last + place) old new
+      → Holds new (last + place) (posting_record p) → RisesInFront old last place p.key → IsWellListed new floor next head
   well_in_block last place walk below adds holds rises =
       well_with_entry w (walks_lead walk (arrived head refl)) below adds holds (before_holds old last place p.key rises)
 
   -- a blank place of the tail, and a pointer
-  well_in_tail : (home target place : ℕ) → Walks old floor next p.key home head → PutsTwo old new home target place p
+  well_in_tail : (home target place : ℕ) → WalksBlocks old floor next p.key home head → PutsTwo old new home target place p
       → Leads old floor next target home → floor ≤ target → target + 256 ≤ next → IsWellListed new floor next head
   well_in_tail home target place walk puts led from to_here =
       let e = adds_extends puts.adds in
@@ -91,7 +91,7 @@ module _ {old new : Image} {floor next head : ℕ} {p : PostingFields} (w : IsWe
       (front_on e puts.full) from to_here puts.in_places (placed puts.adds puts.posting puts.rises) puts.span
       (inl (leads_on e there))
 
-  module _ (home : ℕ) (walk : Walks old floor next p.key home head) (puts : PutsTwo old new home next 0 p)
+  module _ (home : ℕ) (walk : WalksBlocks old floor next p.key home head) (puts : PutsTwo old new home next 0 p)
       (blank : (cell : ℕ) → next ≤ cell → old cell ≡ None) where
     head_below : head + 256 ≤ next
     head_below = omega (arith, w.before, roomy)

@@ -16,9 +16,9 @@ use Rattle.worm_device.specs.declared.owner.Owner.{Owner}
 use Rattle.jump_block.specs.declared.spans.Span.{Span}
 use Rattle.jump_block.specs.Pointing.{HasFull, HasPointer, IsPointerEvidence, HasKeyIn}
 use Rattle.jump_block.proofs.OneBlock.{jump_target}
-use Rattle.jump_insertion.specs.Evidence.{IsMet, IsBadHop, outside, meets, ShowsBelow, bad_pointer}
-use Rattle.jump_insertion.specs.Hopping.{IsAt, CheckEnds}
-use Rattle.jump_insertion.specs.Readiness.{IsOwnBlock, IsReached, is_new, stands_below, IsListCell, a_posting, a_pointer}
+use Rattle.jump_insertion.specs.Evidence.{IsBlockMet, IsBadHop, outside, meets, ShowsBelow, bad_pointer}
+use Rattle.jump_insertion.specs.Hopping.{IsAt, TargetCheckEnds}
+use Rattle.jump_insertion.specs.Readiness.{IsOwnBlock, IsBlockReached, is_new, stands_below, IsListCell, a_posting, a_pointer}
 use Rattle.jump_insertion.proofs.Showing.{some_or_none}
 
 -- where a planned pointer of the list leads
@@ -26,7 +26,7 @@ pub record LeadsOn (s : ViewState) (head floor next block level digit target : �
   pub from : floor ≤ target
   pub to : target + 256 ≤ next
   pub own_block : IsOwnBlock s head target
-  pub reached : IsReached s head floor target
+  pub reached : IsBlockReached s head floor target
   pub cell : ℕ
   pub owner : Owner
   pub planned : s.owners cell ≡ Some owner
@@ -40,7 +40,7 @@ no_posting_there : (block level digit place : ℕ) → pointer_at block level di
     → 1 ≤ digit → ⊥
 no_posting_there block level digit place is below some = omega arith
 
-old_leads : (s : ViewState) (head floor block cell : ℕ) → IsReached s head floor block → block ≤ cell → cell < s.fresh
+old_leads : (s : ViewState) (head floor block cell : ℕ) → IsBlockReached s head floor block → block ≤ cell → cell < s.fresh
     → Leads s.lower floor s.fresh block head
 old_leads s head floor block cell (is_new past) from less = absurd (omega arith)
 old_leads s head floor block cell (stands_below to led) from less = led
@@ -50,7 +50,7 @@ pub check_fault : (s : ViewState) (head floor next key block target : ℕ) (span
     → IsPointerEvidence block span.level span.digit target fault
     → ((e : Evidence) → IsPointerEvidence block span.level span.digit target (Tampered e) → IsTrue s.base.tells
     → ShowsBelow s head floor key e)
-    → CheckEnds head floor next key block span target s (Err fault)
+    → TargetCheckEnds head floor next key block span target s (Err fault)
 check_fault s head floor next key block target span Failed names shows = absurd names
 check_fault s head floor next key block target span (Tampered e) names shows = shows e names
 
@@ -98,7 +98,7 @@ module _ (s : ViewState) (view : IsView s) (head floor next key block : ℕ) (at
           from = omega (arith, from, same_target);
           to = omega (arith, to, same_target);
           own_block = subst (λ b. IsOwnBlock s head b) (same_base ∙ same_target) named;
-          reached = subst (λ b. IsReached s head floor b) (same_base ∙ same_target) reached;
+          reached = subst (λ b. IsBlockReached s head floor b) (same_base ∙ same_target) reached;
           cell = cell;
           owner = owner;
           planned = planned;
@@ -139,13 +139,13 @@ module _ (s : ViewState) (view : IsView s) (head floor next key block : ℕ) (at
     new_hop free out e names = shows_hop free e names (outside target led (inr out))
 
     pub met_hop : s.planned (pointer_at block level digit) ≡ None → floor ≤ target → target + 256 ≤ s.fresh
-        → IsMet s head target → (e : Evidence) → IsPointerEvidence block level digit target (Tampered e)
+        → IsBlockMet s head target → (e : Evidence) → IsPointerEvidence block level digit target (Tampered e)
         → ShowsBelow s head floor key e
     met_hop free from to met e names = shows_hop free e names (meets target led from to met)
 
     -- the target is a block of the list as it stands below
     pub reached_below : s.planned (pointer_at block level digit) ≡ None → floor ≤ target → target + 256 ≤ s.fresh
-        → IsReached s head floor target × (pointer_at block level digit < s.fresh)
+        → IsBlockReached s head floor target × (pointer_at block level digit < s.fresh)
         × Leads s.lower floor s.fresh block head
     reached_below free from to =
         let here = below_here (pointer_at block level digit) led.cell (omega arith) free led.stands in

@@ -9,14 +9,14 @@ use Rattle.cell_pool.specs.declared.fault.GrowthFault.TheVariants.{Fault, NoMemo
 use Rattle.jump_insertion.specs.Hopping.{IsAt}
 use Rattle.jump_insertion.specs.Inserting.{InsertsPosting}
 use Rattle.jump_insertion.specs.Placing.{PlacesPosting, GrowEnds, HasPlanned}
-use Rattle.jump_insertion.specs.Readiness.{stands_below, IsReady}
+use Rattle.jump_insertion.specs.Readiness.{stands_below, IsReadyList}
 use Rattle.jump_insertion.specs.declared.entries.Spot.{Spot}
 use Rattle.jump_insertion.proofs.Growing.{grows_well}
 use Rattle.jump_insertion.proofs.Unshown.{not_shown}
 
 -- an insertion begins at the list's first block
 pub at_head : (s : ViewState) (head floor next key : ℕ) → head + 256 ≤ floor → floor ≤ s.fresh
-    → IsReady s head floor next key → IsAt s head floor next key head
+    → IsReadyList s head floor next key → IsAt s head floor next key head
 at_head s head floor next key before roomy ready = record {
   ready = ready;
   own_block = ready.first;

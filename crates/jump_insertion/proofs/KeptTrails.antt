@@ -14,11 +14,11 @@ use Rattle.volume_meaning.proofs.Fronts.{front_on, one_place, one_posting}
 use Rattle.volume_meaning.proofs.Trails.{hop_on, hop_wider, trail_on, trail_wider}
 use Rattle.tamper_rules.proofs.GivenUp.{jumps, leads_further}
 use Rattle.tamper_rules.proofs.Writing.{same_or_not}
-use Rattle.ingest_laws.specs.ListShapes.{IsWellListed, Adds}
+use Rattle.ingest_laws.specs.ListShapes.{IsWellListed, AddsOneCell}
 use Rattle.ingest_laws.proofs.ListShapes.{adds_extends, holds_back}
 use Rattle.worm_device.proofs.Images.{extends_then}
-use Rattle.jump_insertion.specs.Costs.{HaveTrails, HaveKeysBelow}
-use Rattle.jump_insertion.specs.Growing.{Walks, ends, hops, Rises, PutsTwo, Grows, in_block, in_tail, in_new_block}
+use Rattle.jump_insertion.specs.Costs.{ListHasTrails, HaveKeysBelow}
+use Rattle.jump_insertion.specs.Growing.{WalksBlocks, ends, hops, RisesInFront, PutsTwo, Grows, in_block, in_tail, in_new_block}
 use Rattle.jump_insertion.proofs.Costs.{walk_leads}
 
 -- what holds of a first block, and of each that a block with it leads to, holds of the list's blocks
@@ -59,8 +59,8 @@ moved : {image : Image} {at to : ℕ} {r : RecordCell} → at ≡ to → Holds i
 moved {image} {r = r} same h = subst (λ (c : ℕ). Holds image c r) same h
 
 -- a posting behind smaller keys is of its block's front
-new_in_front : {old new : Image} {block place : ℕ} {p : PostingFields} → Adds (block + place) old new
-    → Holds new (block + place) (posting_record p) → Rises old block place p.key → InFront new block place p
+new_in_front : {old new : Image} {block place : ℕ} {p : PostingFields} → AddsOneCell (block + place) old new
+    → Holds new (block + place) (posting_record p) → RisesInFront old block place p.key → InFront new block place p
 new_in_front {old} {new} {block} {place} {p} adds holds rises = ⊎_elim
     (λ first. at_the_start place p first holds)
     (λ later.
@@ -95,7 +95,7 @@ pub record IsGrown (old new : Image) (floor next to head : ℕ) (p : PostingFiel
 
 -- a trail from where the walk for the posting's key ends is one from where it begins
 walk_trails : {old new : Image} {floor next to head at last : ℕ} {p : PostingFields} {block : ℕ}
-    → IsWellListed old floor next head → Extends old new → next ≤ to → Walks old floor next p.key last block
+    → IsWellListed old floor next head → Extends old new → next ≤ to → WalksBlocks old floor next p.key last block
     → Leads old floor next block head → Trail new floor to at p last → Trail new floor to at p block
 walk_trails {old} {new} {floor} {next} {to} {head} {at} {last} {p = p} w e more (ends block same) leads trail =
     subst (λ (b : ℕ). Trail new floor to at p b) (sym same) trail
@@ -129,8 +129,8 @@ walk_trails {old} {new} {floor} {next} {to} {head} {at} {last} {p = p} w e more
 
 module _ {old new : Image} {floor next head : ℕ} {p : PostingFields} (w : IsWellListed old floor next head) where
   -- into a block with a blank entry
-  in_a_block : (last place : ℕ) → Walks old floor next p.key last head → place < 128 → Adds (last + place) old new
-      → Holds new (last + place) (posting_record p) → Rises old last place p.key
+  in_a_block : (last place : ℕ) → WalksBlocks old floor next p.key last head → place < 128 → AddsOneCell (last + place) old new
+      → Holds new (last + place) (posting_record p) → RisesInFront old last place p.key
       → IsGrown old new floor next next head p
   in_a_block last place walk below adds holds rises = record {
     extends = adds_extends adds;
@@ -189,7 +189,7 @@ module _ {old new : Image} {floor next head : ℕ} {p : PostingFields} (w : IsWe
 
   -- and the new block or tail has a trail for the posting
   trail_two : {home target place to : ℕ} → (puts : PutsTwo old new home target place p)
-      → Walks old floor next p.key home head → next ≤ to → floor ≤ target → target + 256 ≤ to
+      → WalksBlocks old floor next p.key home head → next ≤ to → floor ≤ target → target + 256 ≤ to
       → Trail new floor to (target + place) p head
   trail_two {home} {target} {place} {to} puts walk more from inside =
       let front : InFront new target place p =
@@ -214,7 +214,7 @@ module _ {old new : Image} {floor next head : ℕ} {p : PostingFields} (w : IsWe
       (here target place refl puts.in_places front))
 
   -- into the list's tail, with a pointer to it
-  in_the_tail : (home target place : ℕ) → Walks old floor next p.key home head → PutsTwo old new home target place p
+  in_the_tail : (home target place : ℕ) → WalksBlocks old floor next p.key home head → PutsTwo old new home target place p
       → Leads old floor next target home → floor ≤ target → target + 256 ≤ next
       → IsGrown old new floor next next head p
   in_the_tail home target place walk puts led from inside =
@@ -241,7 +241,7 @@ module _ {old new : Image} {floor next head : ℕ} {p : PostingFields} (w : IsWe
           leads (arrived head refl)
 
   -- into a new block, with a pointer to it
-  in_a_new_block : (home : ℕ) → floor ≤ next → Walks old floor next p.key home head → PutsTwo old new home next 0 p
+  in_a_new_block : (home : ℕ) → floor ≤ next → WalksBlocks old floor next p.key home head → PutsTwo old new home next 0 p
       → ((cell : ℕ) → next ≤ cell → old cell ≡ None) → IsGrown old new floor next (next + 256) head p
   in_a_new_block home roomy walk puts blank = record {
     extends = extends_two puts;
@@ -296,7 +296,7 @@ grown {old} {new} {floor} {next} {to} {head} {p = p} w roomy
     subst (λ (n : ℕ). IsGrown old new floor next n head p) (sym same) (in_a_new_block w home roomy walk puts blank)
 
 module _ {old new : Image} {floor next to head : ℕ} {p : PostingFields} (g : IsGrown old new floor next to head p) where
-  pub trails_go_on : HaveTrails old floor next head → HaveTrails new floor to head
+  pub trails_go_on : ListHasTrails old floor next head → ListHasTrails new floor to head
   trails_go_on trails block place q leads below holds = ⊎_elim
       (λ same. (g.at, subst (λ (r : PostingFields). Trail new floor to g.at r head) (sym same) g.trail))
       (λ (x : Leads old floor next block head × Holds old (block + place) (posting_record q)).

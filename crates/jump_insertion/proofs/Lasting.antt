@@ -21,7 +21,7 @@ use Rattle.jump_block.specs.Spans.{IsSpan}
 use Rattle.jump_block.specs.declared.spans.Span.{Span}
 use Rattle.jump_block.specs.Pointing.{HasFull, HasPointer}
 use Rattle.jump_block.proofs.OneBlock.{jump_target, none_from_blank}
-use Rattle.jump_insertion.specs.Growing.{IsTop, EndsAt, EndsAtFull, IsLast, IsLastFull}
+use Rattle.jump_insertion.specs.Growing.{IsTop, EndsTrailAt, EndsAtFull, IsLastBlock, IsLastFull}
 use Rattle.jump_insertion.specs.Hopping.{BlankFrom, TailLast}
 use Rattle.jump_insertion.specs.declared.entries.Spot.{Spot}
 use Rattle.jump_insertion.proofs.Showing.{quiet_image}
@@ -115,7 +115,7 @@ passes {image} {floor} {next} {block} {head} {at} {l} {bound} {target} {q} s is 
 -- a block with a blank place is the last
 pub open_last : {image : Image} {floor next at block : ℕ} {q : PostingFields} (place : ℕ) → place < 128
     → image (block + place) ≡ None → Trail image floor next at q block
-    → EndsAt image floor next at q block block
+    → EndsTrailAt image floor next at q block block
 open_last place small blank (here block at_place is below front) =
     record { place = at_place; is = is; trail = at_end block refl below front }
 open_last {image} place small blank (on block target hop rest) =
@@ -123,8 +123,8 @@ open_last {image} place small blank (on block target hop rest) =
 
 -- a trail that goes on behind a pointer ends where that ends
 pub ends_behind : {image : Image} {floor next at block target last : ℕ} {q : PostingFields}
-    → Hop image floor next block q.key target → EndsAt image floor next at q last target
-    → EndsAt image floor next at q last block
+    → Hop image floor next block q.key target → EndsTrailAt image floor next at q last target
+    → EndsTrailAt image floor next at q last block
 ends_behind {block = block} {target = target} hop end =
     record { place = end.place; is = end.is; trail = through block target hop end.trail }
 
@@ -153,7 +153,7 @@ tail_last_then floor next block target bound bound' l s old mid new is viewed la
     (subst (λ (i : Image). IsTop i floor next head q) (sym same) top)
     (subst (λ (i : Image). Leads i floor next target head) (sym same) h.led) (narrow q.key h.below less)
     (subst (λ (i : Image). Trail i floor next at q target) (sym same) h.trail) in
-    ends_behind h.hop (subst (λ (i : Image). EndsAt i floor next at q spot.block target) same back)
+    ends_behind h.hop (subst (λ (i : Image). EndsTrailAt i floor next at q spot.block target) same back)
 tail_last_then floor next block target bound bound' l s old mid new is viewed later full led blank narrow
     (Ok None) last = λ tells still head at q top there less trail.
     let same : mid.image ≡ old.image = quiet_image viewed new.base.foreign_writes later still in
@@ -214,9 +214,9 @@ low_over l s is =
 pub is_last : (floor next block l key : ℕ) (s : Span) (spot : Spot) (old mid : ViewState) → IsSpan l s → key < s.high
     → HasFull old.image block l → old.image (pointer_at block s.level s.digit) ≡ None
     → IsTrue old.base.tells → IsStill old.base.foreign_writes mid.base.foreign_writes → mid.image ≡ old.image
-    → TailLast floor next block s.low old mid (Ok (Some spot)) → IsLast mid.image floor next block key spot.block
+    → TailLast floor next block s.low old mid (Ok (Some spot)) → IsLastBlock mid.image floor next block key spot.block
 is_last floor next block l key s spot old mid is top full blank tells still same last =
-    subst (λ (i : Image). IsLast i floor next block key spot.block) (sym same)
+    subst (λ (i : Image). IsLastBlock i floor next block key spot.block) (sym same)
     (λ head at q listed led less trail. last tells still head at q listed led
     (below_span s key is full blank (low_over l s is) top less trail) trail)
 

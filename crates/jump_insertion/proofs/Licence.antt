@@ -19,8 +19,8 @@ use Rattle.tamper_rules.specs.Rules.{Entries, IsOfPool, IsTruePosting, LeadsWell
 use Rattle.jump_block.proofs.OneBlock.{jump_target, in_place, leads_wider, not_in_order}
 use Rattle.worm_device.specs.Views.{ViewState, IsView}
 use Rattle.worm_device.specs.declared.owner.Owner.{Owner}
-use Rattle.jump_insertion.specs.Evidence.{StandsBelow, IsMet, IsBadHop, no_jump, outside, no_key, meets, meets_block, ShowsBelow, bad_entry, bad_pointer, late, IsInItsPlace, of_new, of_list, of_tree, AreInTheirPlaces, IsLicensedBelow, IsPastSlots}
-use Rattle.jump_insertion.specs.Readiness.{IsReached, is_new, stands_below}
+use Rattle.jump_insertion.specs.Evidence.{StandsBelow, IsBlockMet, IsBadHop, no_jump, outside, no_key, meets, meets_block, ShowsBelow, bad_entry, bad_pointer, late, IsInItsPlace, of_new, of_list, of_tree, AreInTheirPlaces, IsLicensedBelow, IsPastSlots}
+use Rattle.jump_insertion.specs.Readiness.{IsBlockReached, is_new, stands_below}
 use Rattle.jump_insertion.proofs.BelowPlans.{IsShown, is_shown, front_shown, order_shown, greatest_shown}
 use Rattle.jump_insertion.proofs.Showing.{leads_on}
 
@@ -75,7 +75,7 @@ leads_before below (onwards block level digit target levels some digits jump ins
 
 -- what is planned for another and meets the target would break the rule of pointers
 met_breaks : (g : Layout) (s : ViewState) (l block level digit target : ℕ) → l < all_lists g → target + 256 ≤ s.fresh
-    → AreInTheirPlaces g s → (m : IsMet s (list_at g l) target)
+    → AreInTheirPlaces g s → (m : IsBlockMet s (list_at g l) target)
     → (well : LeadsWell g s.lower l block level digit) → well.target ≡ target
     → IsInItsPlace g s m.cell m.owner → ⊥
 met_breaks g s l block level digit target list to places m well one (of_new fresh from) = ⊎_elim
@@ -111,7 +111,7 @@ reached_breaks : (g : Layout) (s : ViewState) (l block level digit target home :
     → IsEdge g s.lower s.lower s.fresh → target + 256 ≤ s.fresh → home ≢ target → target < home + 256
     → home < target + 256
     → (well : LeadsWell g s.lower l block level digit) → well.target ≡ target
-    → IsReached s (list_at g l) (pool_at g) home → ⊥
+    → IsBlockReached s (list_at g l) (pool_at g) home → ⊥
 reached_breaks g s l block level digit target home list edge to other low high well one (is_new fresh) = omega arith
 reached_breaks g s l block level digit target home list edge to other low high well one (stands_below before leads) =
     ⊎_elim
@@ -165,7 +165,7 @@ not_well g s l block level digit found list shown edge places before low high
 
 -- a cell of a block of list l that is new, or stands below before cells of the volume, is in its place
 pub reached_in_place : {g : Layout} {s : ViewState} {l cell : ℕ} {owner : Owner} → l < all_lists g → s.fresh ≤ g.cells
-    → owner.head ≡ list_at g l → IsReached s (list_at g l) (pool_at g) owner.base → owner.base ≤ cell
+    → owner.head ≡ list_at g l → IsBlockReached s (list_at g l) (pool_at g) owner.base → owner.base ≤ cell
     → cell < owner.base + 256 → IsInItsPlace g s cell owner
 reached_in_place {l = l} list inside head (is_new past) from to = of_new past from
 reached_in_place {g} {l = l} list inside head (stands_below before leads) from to =

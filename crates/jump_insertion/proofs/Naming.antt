@@ -23,8 +23,8 @@ use Rattle.jump_block.proofs.Counting.{rose_later}
 use Rattle.jump_block.specs.Pointing.{HasFull, HasPointer, IsPointerPlace, IsPointerEvidence}
 use Rattle.jump_block.proofs.OneBlock.{of_span}
 use Rattle.jump_insertion.specs.Evidence.{no_jump, no_key, meets_block, ShowsBelow, bad_entry, bad_pointer, late}
-use Rattle.jump_insertion.specs.Hopping.{IsAt, IsOldHop, FaultEnds, CheckEnds, GreatestEnds, IsLateEvidence}
-use Rattle.jump_insertion.specs.Readiness.{IsOwnBlock, IsReached, IsListCell, a_posting, a_pointer}
+use Rattle.jump_insertion.specs.Hopping.{IsAt, IsOldHop, HopFaultEnds, TargetCheckEnds, GreatestEnds, IsLateEvidence}
+use Rattle.jump_insertion.specs.Readiness.{IsOwnBlock, IsBlockReached, IsListCell, a_posting, a_pointer}
 use Rattle.jump_insertion.proofs.Hopping.{planned_or_not, below_here, planned_jump, shows_hop}
 use Rattle.jump_insertion.proofs.Readying.{own_block_viewed, reached_viewed, cell_same}
 use Rattle.jump_insertion.proofs.Showing.{leads_on, some_same}
@@ -138,21 +138,21 @@ module _ (s : ViewState) (view : IsView s) (head floor next key block : ℕ) (at
 module _ (s t : ViewState) (view : IsView t) (head floor next key block : ℕ)
     (at : IsTrue s.base.tells → IsAt t head floor next key block) where
   -- a fault of a look into a front
-  pub front_fault : (fault : Fault) → FirstEnds key block s t (Err fault) → FaultEnds head floor key s t fault
+  pub front_fault : (fault : Fault) → FirstEnds key block s t (Err fault) → HopFaultEnds head floor key s t fault
   front_fault Failed ends = ends
   front_fault (Tampered e) ends = λ tells.
       shows_entry t view head floor next key block (at tells) ends.1 e ends.0 ends.3 ends.2 (ends.4 tells).0
 
   -- the entry that was found is late
   pub late_fault : (entry : Entry) → FirstEnds key block s t (Ok (At entry)) → (fault : Fault)
-      → IsLateEvidence entry fault → FaultEnds head floor key s t fault
+      → IsLateEvidence entry fault → HopFaultEnds head floor key s t fault
   late_fault entry ends Failed names = absurd names
   late_fault entry ends (Tampered e) names = λ tells.
       shows_late t view head floor next key block (at tells) entry e ends.0 ends.1 (ends.4 tells).0 ends.2 names
 
   -- a fault of a read of a pointer
   pub pointer_fault : (level digit : ℕ) → IsPointerPlace level digit → (fault : Fault)
-      → ReadsPointer (pointer_at block level digit) s t (Err fault) → FaultEnds head floor key s t fault
+      → ReadsPointer (pointer_at block level digit) s t (Err fault) → HopFaultEnds head floor key s t fault
   pointer_fault level digit place Failed read = read.ends
   pointer_fault level digit place (Tampered e) read = λ tells.
       shows_no_jump t view head floor next key block (at tells) level digit e place read.ends.0 read.ends.1
@@ -160,7 +160,7 @@ module _ (s t : ViewState) (view : IsView t) (head floor next key block : ℕ)
 
   -- a fault of the search for the greatest pointer
   pub greatest_fault : (l bound : ℕ) (fault : Fault) → GreatestEnds block l bound s t (Err fault)
-      → FaultEnds head floor key s t fault
+      → HopFaultEnds head floor key s t fault
   greatest_fault l bound Failed ends = ends
   greatest_fault l bound (Tampered e) ends = λ tells.
       let bad = ends.1 tells in
@@ -168,13 +168,13 @@ module _ (s t : ViewState) (view : IsView t) (head floor next key block : ℕ)
 
 -- a fault of a later call is one of a longer row of calls
 pub fault_then : (head floor key : ℕ) (a b c : ViewState) → Viewed a b → (fault : Fault)
-    → FaultEnds head floor key b c fault → FaultEnds head floor key a c fault
+    → HopFaultEnds head floor key b c fault → HopFaultEnds head floor key a c fault
 fault_then head floor key a b c viewed Failed ends = rose_later _ _ _ viewed.called.faults ends
 fault_then head floor key a b c viewed (Tampered e) ends = λ tells. ends (subst IsTrue (sym viewed.called.tells) tells)
 
 pub check_refused : (head floor next key block target : ℕ) (span : Span) (a b : ViewState) → Viewed a b
     → (fault : Fault)
-    → CheckEnds head floor next key block span target b (Err fault) → FaultEnds head floor key a b fault
+    → TargetCheckEnds head floor next key block span target b (Err fault) → HopFaultEnds head floor key a b fault
 check_refused head floor next key block target span a b viewed Failed ends = absurd ends
 check_refused head floor next key block target span a b viewed (Tampered e) ends =
     λ tells. ends (subst IsTrue (sym viewed.called.tells) tells)
@@ -184,15 +184,15 @@ pub named_fault : (head floor key block level digit target : ℕ) (a b : ViewSta
     → IsPointerEvidence block level digit target fault
     → ((e : Evidence) → IsPointerEvidence block level digit target (Tampered e) → IsTrue a.base.tells
     → ShowsBelow b head floor key e)
-    → FaultEnds head floor key a b fault
+    → HopFaultEnds head floor key a b fault
 named_fault head floor key block level digit target a b Failed names shows = absurd names
 named_fault head floor key block level digit target a b (Tampered e) names shows = shows e names
 
 module _ (s : ViewState) (view : IsView s) (head floor next key block : ℕ) (at : IsAt s head floor next key block)
     (span : Span) (l target : ℕ) (is : IsSpan l span) (led : HasPointer s.image block span.level span.digit target)
-    (checked : CheckEnds head floor next key block span target s (Ok tt)) (tells : IsTrue s.base.tells) where
+    (checked : TargetCheckEnds head floor next key block span target s (Ok tt)) (tells : IsTrue s.base.tells) where
   -- the target meets the block at which the search began
-  pub meets_home : (home : ℕ) → IsOwnBlock s head home → IsReached s head floor home → target ≢ home
+  pub meets_home : (home : ℕ) → IsOwnBlock s head home → IsBlockReached s head floor home → target ≢ home
       → target < home + 256 → home < target + 256 → (e : Evidence)
       → IsPointerEvidence block span.level span.digit target (Tampered e) → ShowsBelow s head floor key e
   meets_home home own reached differ before behind e names = ⊎_elim
@@ -245,8 +245,8 @@ full_at_most full place p below front = omega (arith, rises_or_same front full.i
 
 -- what was checked holds after reads
 pub check_on : (s t : ViewState) (head floor next key block target : ℕ) (span : Span) → Viewed s t
-    → CheckEnds head floor next key block span target s (Ok tt)
-    → CheckEnds head floor next key block span target t (Ok tt)
+    → TargetCheckEnds head floor next key block span target s (Ok tt)
+    → TargetCheckEnds head floor next key block span target t (Ok tt)
 check_on s t head floor next key block target span viewed checked = (
   checked.0,
   checked.1,

@@ -25,10 +25,10 @@ use Rattle.jump_block.specs.Pointing.{HasFull, HasPointer, HasKeyIn}
 use Rattle.jump_block.proofs.OneBlock.{none_from_blank}
 use Rattle.cell_pool.specs.declared.fault.GrowthFault.{GrowthFault}
 use Rattle.cell_pool.specs.declared.fault.GrowthFault.TheVariants.{Fault, NoMemory}
-use Rattle.jump_insertion.specs.Hopping.{IsAt, IsSpot, FaultEnds}
+use Rattle.jump_insertion.specs.Hopping.{IsAt, IsSpot, HopFaultEnds}
 use Rattle.jump_insertion.specs.Placing.{PlacesPosting}
 use Rattle.jump_insertion.specs.Planning.{PutsRecord, PutsBoth}
-use Rattle.jump_insertion.specs.Readiness.{IsOwnBlock, IsReached, is_new, a_posting, a_pointer, IsReady}
+use Rattle.jump_insertion.specs.Readiness.{IsOwnBlock, IsBlockReached, is_new, a_posting, a_pointer, IsReadyList}
 use Rattle.jump_insertion.specs.declared.entries.Spot.{Spot}
 use Rattle.jump_insertion.proofs.Growing.{next_front}
 use Rattle.jump_insertion.proofs.Naming.{fault_then, full_at_most}
@@ -300,7 +300,7 @@ module _ (head floor next to block l : ℕ) (p : PostingFields) (s : Span) (low 
     abbrev second : ViewState
     second = with_image put_at new.image new.lower
 
-    ready_first : IsReady first head floor next p.key
+    ready_first : IsReadyList first head floor next p.key
     ready_first = ready_same old first head floor next p.key
         (extends_self old.image) viewed.lower viewed.fresh viewed.owners at_old.ready
 
@@ -311,7 +311,7 @@ module _ (head floor next to block l : ℕ) (p : PostingFields) (s : Span) (low 
     own_home = own_block_same old first head floor next p.key
         (extends_self old.image) viewed.lower viewed.fresh viewed.owners block at_old.own_block
 
-    ready_second : (key : ℕ) → p.key < key → IsReady second head floor to key
+    ready_second : (key : ℕ) → p.key < key → IsReadyList second head floor to key
     ready_second key greater =
         ready_put first second head floor next to p.key key (spot.block + spot.place) spot.block owner is_head is_base
         (λ c d. (put.others c d).2) put.ends.for_whom (target.view.unowned (spot.block + spot.place) put.ends.free)
@@ -329,11 +329,11 @@ module _ (head floor next to block l : ℕ) (p : PostingFields) (s : Span) (low 
         grown lower_mid put.fresh (omega arith) (omega (arith, target.in_places)) block
         (inr (spot_apart tells)) own_home
 
-    reached_second : IsReached second head floor block
+    reached_second : IsBlockReached second head floor block
     reached_second = reached_as old second head floor (extends_then viewed.lower lower_mid)
         (put.fresh ∙ viewed.fresh) block at_old.reached
 
-    pub placed_ready : (key : ℕ) → p.key < key → IsReady new head floor to key
+    pub placed_ready : (key : ℕ) → p.key < key → IsReadyList new head floor to key
     placed_ready key greater =
         ready_put second new head floor to to key key
         (pointer_at block s.level s.digit) block home_owner is_home_head is_home_base
@@ -420,7 +420,7 @@ module _ (head floor next to block l : ℕ) (p : PostingFields) (s : Span) (low 
   }
 
 -- a new block is one to go to
-pub new_spot : (s : ViewState) → IsView s → (head floor next key block : ℕ) → IsReady s head floor next key
+pub new_spot : (s : ViewState) → IsView s → (head floor next key block : ℕ) → IsReadyList s head floor next key
     → s.fresh ≤ next
     → ((cell : ℕ) → next ≤ cell → s.planned cell ≡ None) → block + 256 ≤ next → IsSpot s head floor key block next 0
 new_spot s view head floor next key block ready fresh free before = record {
@@ -537,7 +537,7 @@ refused_behind head floor to block target a b p low bound old new NoMemory place
 -- a fault of the reads
 pub read_fault : (head floor to block : ℕ) (p : PostingFields) (low bound : ℕ) (old new : ViewState) (f : fault.Fault)
     → Viewed old new
-    → FaultEnds head floor p.key old new f → PlacesPosting head floor to block p low bound old new (Err (Fault f))
+    → HopFaultEnds head floor p.key old new f → PlacesPosting head floor to block p low bound old new (Err (Fault f))
 read_fault head floor to block p low bound old new f viewed ends = record {
   called = viewed.called;
   cells = viewed.cells;

@@ -15,7 +15,7 @@ use Rattle.cell_pool.specs.Grants.{TakesFront}
 use Rattle.cell_pool.specs.declared.pool.Pool.{Pool}
 use Rattle.worm_device.specs.declared.owner.Owner.{Owner}
 use Rattle.cell_pool.specs.declared.fault.GrowthFault.{GrowthFault}
-use Rattle.jump_insertion.specs.Inserting.{IsPlannedFor, IsAsPlanned, PlansEntry, alone, with_pointer}
+use Rattle.jump_insertion.specs.Inserting.{IsPlannedInList, IsAsPlanned, PlansEntry, alone, with_pointer}
 use Rattle.jump_insertion.specs.Placing.{HasPlanned, PlannedEnds}
 use Rattle.jump_insertion.specs.Planning.{PutsRecord, PlansTwo, PutsBoth}
 use Rattle.jump_insertion.specs.declared.entries.Spot.{Spot}
@@ -36,8 +36,8 @@ writes_on same = omega (arith, ap (λ (d : DeviceState). d.foreign_writes) same)
 -- after reads
 module _ (old mid new : ViewState) (viewed : Viewed old mid) (later : mid.base.foreign_writes ≤ new.base.foreign_writes)
   where
-    planned_for_then : {head floor at : ℕ} {r : RecordCell} → IsPlannedFor head floor r at mid new
-        → IsPlannedFor head floor r at old new
+    planned_for_then : {head floor at : ℕ} {r : RecordCell} → IsPlannedInList head floor r at mid new
+        → IsPlannedInList head floor r at old new
     planned_for_then {at = at} h = record {
       free = sym (planned_before viewed at) ∙ h.free;
       blank = λ tells. blank_before viewed.image (h.blank (subst IsTrue (sym viewed.called.tells) tells));

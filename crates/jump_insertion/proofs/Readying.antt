@@ -12,11 +12,11 @@ use Rattle.worm_device.specs.declared.owner.Owner.{Owner}
 use Rattle.jump_block.proofs.Knowing.{key_on}
 use Rattle.jump_block.specs.declared.spans.Span.{Span}
 use Rattle.jump_insertion.specs.Hopping.{IsAt, IsHop}
-use Rattle.jump_insertion.specs.Readiness.{IsOwnBlock, IsReached, is_new, stands_below, IsListCell, a_posting, a_pointer, IsReady}
+use Rattle.jump_insertion.specs.Readiness.{IsOwnBlock, IsBlockReached, is_new, stands_below, IsListCell, a_posting, a_pointer, IsReadyList}
 use Rattle.jump_insertion.proofs.Showing.{has_key_on, leads_on, some_same}
 
 pub reached_as : (s t : ViewState) (head floor : ℕ) → Extends s.lower t.lower → t.fresh ≡ s.fresh → (block : ℕ)
-    → IsReached s head floor block → IsReached t head floor block
+    → IsBlockReached s head floor block → IsBlockReached t head floor block
 reached_as s t head floor lower fresh block (is_new past) = is_new (omega (arith, fresh, past))
 reached_as s t head floor lower fresh block (stands_below to leads) =
     stands_below (omega (arith, fresh, to))
@@ -50,7 +50,7 @@ module _ (s t : ViewState) (head floor next key : ℕ) (image : Extends s.image 
   cell_same = cell_on s t head floor next key next key image (omega arith) (omega arith)
       (λ cell owner is. ap (λ (f : ℕ → Option Owner). f cell) owners ∙ is)
 
-  pub ready_same : IsReady s head floor next key → IsReady t head floor next key
+  pub ready_same : IsReadyList s head floor next key → IsReadyList t head floor next key
   ready_same ready = record {
     first = own_block_same head ready.first;
     mine = λ cell owner is same. cell_same cell owner.base (ready.mine cell owner (whose cell owner is) same);
@@ -72,10 +72,10 @@ module _ {s t : ViewState} (viewed : Viewed s t) where
   pub own_block_viewed : (head block : ℕ) → IsOwnBlock s head block → IsOwnBlock t head block
   own_block_viewed head block = own_block_same s t head 0 0 0 viewed.image viewed.lower viewed.fresh viewed.owners block
 
-  pub reached_viewed : (head floor block : ℕ) → IsReached s head floor block → IsReached t head floor block
+  pub reached_viewed : (head floor block : ℕ) → IsBlockReached s head floor block → IsBlockReached t head floor block
   reached_viewed head floor block = reached_as s t head floor viewed.lower viewed.fresh block
 
-  pub ready_viewed : (head floor next key : ℕ) → IsReady s head floor next key → IsReady t head floor next key
+  pub ready_viewed : (head floor next key : ℕ) → IsReadyList s head floor next key → IsReadyList t head floor next key
   ready_viewed head floor next key = ready_same s t head floor next key viewed.image viewed.lower viewed.fresh
       viewed.owners
 
@@ -137,9 +137,9 @@ module _ (s t : ViewState) (head floor next next' key key' at base : ℕ) (mine 
         (whose_before cell owner is);
   }
 
-  pub ready_put : IsReady s head floor next key → next ≤ next' → key ≤ key' → base + 256 ≤ next'
-      → (head ≡ base) ⊎ AreApart base 256 head 256 → IsOwnBlock s head base → IsReached s head floor base
-      → IsListCell t head floor next' key' at base → IsReady t head floor next' key'
+  pub ready_put : IsReadyList s head floor next key → next ≤ next' → key ≤ key' → base + 256 ≤ next'
+      → (head ≡ base) ⊎ AreApart base 256 head 256 → IsOwnBlock s head base → IsBlockReached s head floor base
+      → IsListCell t head floor next' key' at base → IsReadyList t head floor next' key'
   ready_put ready more keys inside lies own_block reached planned = record {
     first = own_block_put head lies ready.first;
     mine = λ cell owner is is_head. ⊎_elim
@@ -161,7 +161,7 @@ module _ (s t : ViewState) (head floor next next' key key' at base : ℕ) (mine 
         (whose_before cell owner is);
     reached = λ cell owner is is_head. ⊎_elim
         (λ (new : (cell ≡ at) × (owner ≡ mine)).
-        let P : ℕ → Type 0 = λ n. IsReached t head floor n in
+        let P : ℕ → Type 0 = λ n. IsBlockReached t head floor n in
         subst P (sym (base_of new.1)) (reached_as s t head floor lower fresh base reached))
         (λ before. reached_as s t head floor lower fresh owner.base (ready.reached cell owner before is_head))
         (whose_before cell owner is);

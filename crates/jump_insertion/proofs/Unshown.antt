@@ -16,9 +16,9 @@ use Rattle.worm_device.specs.Views.{ViewState, IsView}
 use Rattle.jump_block.specs.Fronts.{IsBadEntry, no_posting, does_not_rise}
 use Rattle.jump_block.specs.Pointing.{HasPointer}
 use Rattle.jump_block.proofs.OneBlock.{jump_target}
-use Rattle.jump_insertion.specs.Evidence.{StandsBelow, IsMet, IsBadHop, no_jump, outside, no_key, meets, meets_block, ShowsBelow, bad_entry, bad_pointer, late}
+use Rattle.jump_insertion.specs.Evidence.{StandsBelow, IsBlockMet, IsBadHop, no_jump, outside, no_key, meets, meets_block, ShowsBelow, bad_entry, bad_pointer, late}
 use Rattle.jump_insertion.specs.Growing.{ListBelow}
-use Rattle.jump_insertion.specs.Readiness.{IsReached, is_new, stands_below}
+use Rattle.jump_insertion.specs.Readiness.{IsBlockReached, is_new, stands_below}
 use Rattle.jump_insertion.proofs.Growing.{leads_below}
 use Rattle.jump_insertion.proofs.Showing.{some_or_none, some_same}
 
@@ -91,7 +91,7 @@ module _ (s : ViewState) (view : IsView s) (head floor key : ℕ) (w : ListBelow
     at_target target same = subst (λ (n : ℕ). Leads s.lower floor s.fresh n head) same
         (leads_further led level digit p.target levels some digits p.jump p.inside_from p.inside_to)
 
-    not_met : (target : ℕ) → Leads s.lower floor s.fresh target head → IsMet s head target → ⊥
+    not_met : (target : ℕ) → Leads s.lower floor s.fresh target head → IsBlockMet s head target → ⊥
     not_met target there met =
         let own = w.own_blocks target there in
         ⊎_elim
@@ -106,7 +106,7 @@ module _ (s : ViewState) (view : IsView s) (head floor key : ℕ) (w : ListBelow
         met.is.meets
 
     not_meeting : (target home : ℕ) → Leads s.lower floor s.fresh target head → target + 256 ≤ s.fresh
-        → IsReached s head floor home → home ≢ target → target < home + 256 → home < target + 256 → ⊥
+        → IsBlockReached s head floor home → home ≢ target → target < home + 256 → home < target + 256 → ⊥
     not_meeting target home there to (is_new past) differ a b = omega (arith, past, to, b)
     not_meeting target home there to (stands_below fits led') differ a b = ⊎_elim
         (λ (same : target ≡ home). differ (sym same))

@@ -7,8 +7,8 @@ use Rattle.volume_meaning.specs.Blocks.{PostingFields}
 use Rattle.volume_meaning.specs.Nodes.{AreApart}
 use Rattle.worm_device.specs.Views.{ViewState, IsView}
 use Rattle.worm_device.specs.declared.owner.Owner.{Owner}
-use Rattle.jump_insertion.specs.Inserting.{IsPlannedFor, PlansEntry, alone, with_pointer}
-use Rattle.jump_insertion.specs.Readiness.{IsReady, IsUntouched}
+use Rattle.jump_insertion.specs.Inserting.{IsPlannedInList, PlansEntry, alone, with_pointer}
+use Rattle.jump_insertion.specs.Readiness.{IsReadyList, IsUntouched}
 use Rattle.jump_insertion.proofs.Showing.{some_same}
 
 pub nothing_touched : (s : ViewState) (head : ℕ) → IsView s → ((cell : ℕ) → s.planned cell ≡ None) → IsUntouched s head
@@ -17,7 +17,7 @@ nothing_touched s head view free = record {
   first = λ cell owner is from to. none-some owner (sym (view.unowned cell (free cell)) ∙ is);
 }
 
-pub untouched_ready : (s : ViewState) (head floor next key : ℕ) → IsUntouched s head → IsReady s head floor next key
+pub untouched_ready : (s : ViewState) (head floor next key : ℕ) → IsUntouched s head → IsReadyList s head floor next key
 untouched_ready s head floor next key untouched = record {
   first = record {
     inside = λ cell owner is from to. absurd (untouched.first cell owner is from to);
@@ -33,7 +33,7 @@ module _ (head floor : ℕ) (old new : ViewState) (other : ℕ) (differ : other 
     (apart : AreApart other 256 head 256)
     (before : other + 256 ≤ floor) where
   -- a cell that was planned for another list is not this one's
-  not_mine : {r : RecordCell} {at : ℕ} → IsPlannedFor head floor r at old new → (cell : ℕ) (owner : Owner) → cell ≡ at
+  not_mine : {r : RecordCell} {at : ℕ} → IsPlannedInList head floor r at old new → (cell : ℕ) (owner : Owner) → cell ≡ at
       → new.owners cell ≡ Some owner → owner.head ≡ other → ⊥
   not_mine {r} {at} planned cell owner same is is_other =
       let owner_is : owner ≡ record { head = head; base = planned.block } =
@@ -41,7 +41,7 @@ module _ (head floor : ℕ) (old new : ViewState) (other : ℕ) (differ : other 
       differ (sym is_other ∙ ap (λ (x : Owner). x.head) owner_is)
 
   -- nor does it lie in this one's first block
-  not_in_first : {r : RecordCell} {at : ℕ} → IsPlannedFor head floor r at old new → (cell : ℕ) → cell ≡ at
+  not_in_first : {r : RecordCell} {at : ℕ} → IsPlannedInList head floor r at old new → (cell : ℕ) → cell ≡ at
       → other ≤ cell
       → cell < other + 256 → ⊥
   not_in_first planned cell same from to = ⊎_elim

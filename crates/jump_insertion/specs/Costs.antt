@@ -8,8 +8,8 @@ use Rattle.ingest_laws.specs.Needs.{PostingCosts}
 use Rattle.jump_insertion.specs.Growing.{Grows}
 
 -- each posting in an entry place of the list's blocks has a trail from the first block
-abbrev pub HaveTrails : Image → ℕ → ℕ → ℕ → Type 0
-HaveTrails image floor next head =
+abbrev pub ListHasTrails : Image → ℕ → ℕ → ℕ → Type 0
+ListHasTrails image floor next head =
     (block place : ℕ) (q : PostingFields) → Leads image floor next block head → place < 128
     → Holds image (block + place) (posting_record q) → (at : ℕ) × Trail image floor next at q head
 
@@ -23,13 +23,13 @@ HaveKeysBelow image floor next head key =
 abbrev pub InsertionsCost : Type 0
 InsertionsCost =
     (old new : Image) (floor next to head cost : ℕ) (p : PostingFields) → IsWellListed old floor next head
-    → HaveTrails old floor next head → HaveKeysBelow old floor next head p.key
+    → ListHasTrails old floor next head → HaveKeysBelow old floor next head p.key
     → Grows old new floor next to head p cost → PostingCosts floor head p old new next to cost
 
 -- behind it each posting has a trail again, and none a greater key than the new one
 abbrev pub InsertionsKeepTrails : Type 0
 InsertionsKeepTrails =
     (old new : Image) (floor next to head cost : ℕ) (p : PostingFields) → IsWellListed old floor next head
-    → floor ≤ next → HaveTrails old floor next head → HaveKeysBelow old floor next head p.key
+    → floor ≤ next → ListHasTrails old floor next head → HaveKeysBelow old floor next head p.key
     → Grows old new floor next to head p cost
-    → HaveTrails new floor to head × ((key : ℕ) → p.key < key → HaveKeysBelow new floor to head key)
+    → ListHasTrails new floor to head × ((key : ℕ) → p.key < key → HaveKeysBelow new floor to head key)

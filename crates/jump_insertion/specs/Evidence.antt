@@ -14,7 +14,7 @@ use Rattle.jump_block.specs.Pointers.{IsNoJump}
 use Rattle.jump_block.specs.Pointing.{HasFull, HasPointer, IsPointerPlace}
 use Rattle.worm_device.specs.Views.{ViewState}
 use Rattle.worm_device.specs.declared.owner.Owner.{Owner}
-use Rattle.jump_insertion.specs.Readiness.{IsReached}
+use Rattle.jump_insertion.specs.Readiness.{IsBlockReached}
 
 -- the evidence stands below, and nothing is planned there
 pub record StandsBelow (s : ViewState) (e : Evidence) : Type 0 where
@@ -29,7 +29,7 @@ pub record IsMetBy (s : ViewState) (head block cell : ℕ) (owner : Owner) : Typ
   pub meets : ((block ≤ cell) × (cell < block + 256))
       ⊎ ((owner.head ≡ head) × (owner.base < block + 256) × (block < owner.base + 256))
 
-pub record IsMet (s : ViewState) (head block : ℕ) : Type 0 where
+pub record IsBlockMet (s : ViewState) (head block : ℕ) : Type 0 where
   pub cell : ℕ
   pub owner : Owner
   pub is : IsMetBy s head block cell owner
@@ -46,9 +46,9 @@ pub data IsBadHop (s : ViewState) (head floor block level digit : ℕ) (found : 
       → ((place : ℕ) (p : PostingFields) → place < 128 → InFront s.image target place p → InSpan l level digit p.key → ⊥)
       → IsBadHop s head floor block level digit found
   meets : (target : ℕ) → HasPointer s.image block level digit target → floor ≤ target → target + 256 ≤ s.fresh
-      → IsMet s head target → IsBadHop s head floor block level digit found
+      → IsBlockMet s head target → IsBadHop s head floor block level digit found
   meets_block : (target home : ℕ) → HasPointer s.image block level digit target → floor ≤ target
-      → target + 256 ≤ s.fresh → IsReached s head floor home
+      → target + 256 ≤ s.fresh → IsBlockReached s head floor home
       → home ≢ target → target < home + 256 → home < target + 256 → IsBadHop s head floor block level digit found
 
 -- The evidence stands below in a block of the list: an entry out of order, a pointer that leads nowhere, or a posting

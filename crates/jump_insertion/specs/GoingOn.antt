@@ -5,7 +5,7 @@ use Rattle.volume_meaning.specs.Blocks.{PostingFields, Trail}
 use Rattle.volume_meaning.specs.Nodes.{AreApart}
 use Rattle.worm_device.specs.Views.{ViewState, IsView}
 use Rattle.jump_insertion.specs.Inserting.{PlansEntry}
-use Rattle.jump_insertion.specs.Readiness.{IsReady, IsUntouched}
+use Rattle.jump_insertion.specs.Readiness.{IsReadyList, IsUntouched}
 
 -- where a view shows nothing planned, no list is touched
 abbrev pub NothingIsTouched : Type 0
@@ -14,7 +14,7 @@ NothingIsTouched =
 
 -- any posting may be inserted into a list of which nothing is planned
 abbrev pub UntouchedIsReady : Type 0
-UntouchedIsReady = (s : ViewState) (head floor next key : ℕ) → IsUntouched s head → IsReady s head floor next key
+UntouchedIsReady = (s : ViewState) (head floor next key : ℕ) → IsUntouched s head → IsReadyList s head floor next key
 
 -- what one insertion plans leaves another list untouched, whose first block lies apart
 abbrev pub OthersStayUntouched : Type 0

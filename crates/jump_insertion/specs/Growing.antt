@@ -4,14 +4,14 @@ use Rattle.cell_types.specs.Image.{Image}
 use Rattle.cell_types.specs.declared.record_cell.RecordCell.TheVariants.{Jump}
 use Rattle.volume_meaning.specs.Volumes.{Holds}
 use Rattle.volume_meaning.specs.Blocks.{PostingFields, posting_record, InFront, IsFull, InSpan, Trail, Leads, pointer_at}
-use Rattle.ingest_laws.specs.ListShapes.{IsWellListed, Adds}
+use Rattle.ingest_laws.specs.ListShapes.{IsWellListed, AddsOneCell}
 use Rattle.ingest_laws.specs.Needs.{TrailTo}
 use Rattle.worm_device.specs.Views.{ViewState}
 use Rattle.jump_insertion.specs.Evidence.{NothingBelowPlans}
 use Rattle.jump_insertion.specs.Readiness.{IsOwnBlock}
 
 -- a full block leads on for a key: the pointer of the key's span is a jump cell to the target
-pub record Steps (image : Image) (from to block key target : ℕ) : Type 0 where
+pub record LeadsOnBy (image : Image) (from to block key target : ℕ) : Type 0 where
   pub greatest : PostingFields
   pub full : IsFull image block greatest
   pub level : ℕ
@@ -22,14 +22,14 @@ pub record Steps (image : Image) (from to block key target : ℕ) : Type 0 where
   pub inside_to : target + 256 ≤ to
 
 -- the walk for a key, along the pointers of the key's spans, comes from a block to the last
-pub data Walks (image : Image) (from to key last : ℕ) : ℕ → Type 0 where
-  ends : (block : ℕ) → block ≡ last → Walks image from to key last block
-  hops : (block target : ℕ) → Steps image from to block key target → Walks image from to key last target
-      → Walks image from to key last block
+pub data WalksBlocks (image : Image) (from to key last : ℕ) : ℕ → Type 0 where
+  ends : (block : ℕ) → block ≡ last → WalksBlocks image from to key last block
+  hops : (block target : ℕ) → LeadsOnBy image from to block key target → WalksBlocks image from to key last target
+      → WalksBlocks image from to key last block
 
 -- the place is the block's first, or behind one of its front with a smaller key
-abbrev pub Rises : Image → ℕ → ℕ → ℕ → Type 0
-Rises image block place key =
+abbrev pub RisesInFront : Image → ℕ → ℕ → ℕ → Type 0
+RisesInFront image block place key =
     (before : ℕ) → place ≡ before + 1 → (q : PostingFields) × InFront image block before q × (q.key < key)
 
 -- A posting was put into a block, and then a pointer to that block into another, which is full and whose pointer of the
@@ -42,10 +42,10 @@ pub record PutsTwo (old new : Image) (home target place : ℕ) (p : PostingField
   pub full : IsFull old home greatest
   pub span : InSpan greatest.key level digit p.key
   pub in_places : place < 128
-  pub adds : Adds (target + place) old mid
+  pub adds : AddsOneCell (target + place) old mid
   pub posting : Holds mid (target + place) (posting_record p)
-  pub rises : Rises old target place p.key
-  pub adds_jump : Adds (pointer_at home level digit) mid new
+  pub rises : RisesInFront old target place p.key
+  pub adds_jump : AddsOneCell (pointer_at home level digit) mid new
   pub jump : Holds new (pointer_at home level digit) (Jump target)
 
 -- the list is well shaped, and no key of its fronts is greater than this posting's
@@ -55,7 +55,7 @@ pub record IsTop (image : Image) (floor next head : ℕ) (q : PostingFields) : T
       → r.key ≤ q.key
 
 -- the trail of the posting in the cell at, from a block on, ends at the last one
-pub record EndsAt (image : Image) (from to at : ℕ) (q : PostingFields) (last block : ℕ) : Type 0 where
+pub record EndsTrailAt (image : Image) (from to at : ℕ) (q : PostingFields) (last block : ℕ) : Type 0 where
   pub place : ℕ
   pub is : at ≡ last + place
   pub trail : TrailTo image from to last place q block
@@ -67,10 +67,10 @@ pub record EndsAtFull (image : Image) (from to at : ℕ) (q : PostingFields) (bl
   pub trail : TrailTo image from to last 127 q block
 
 -- the trail of the list's greatest key, from a block on, ends at this one
-abbrev pub IsLast : Image → ℕ → ℕ → ℕ → ℕ → ℕ → Type 0
-IsLast image floor next home key last =
+abbrev pub IsLastBlock : Image → ℕ → ℕ → ℕ → ℕ → ℕ → Type 0
+IsLastBlock image floor next home key last =
     (head at : ℕ) (q : PostingFields) → IsTop image floor next head q → Leads image floor next home head
-    → q.key < key → Trail image floor next at q home → EndsAt image floor next at q last home
+    → q.key < key → Trail image floor next at q home → EndsTrailAt image floor next at q last home
 
 -- the trail of the list's greatest key, from a block on, ends at a full block
 abbrev pub IsLastFull : Image → ℕ → ℕ → ℕ → ℕ → Type 0
@@ -82,13 +82,15 @@ IsLastFull image floor next home key =
 -- gave for it. The walk for the key ends at a block with a blank entry; or at a blank pointer, and the posting goes
 -- into the list's tail, where this has a blank entry, or else into a new block.
 pub data Grows (old new : Image) (floor next to block : ℕ) (p : PostingFields) (cost : ℕ) : Type 0 where
-  in_block : (last place : ℕ) → Walks old floor next p.key last block → place < 128 → Adds (last + place) old new
-      → Holds new (last + place) (posting_record p) → Rises old last place p.key → to ≡ next → cost ≡ 1
+  in_block : (last place : ℕ) → WalksBlocks old floor next p.key last block → place < 128
+      → AddsOneCell (last + place) old new
+      → Holds new (last + place) (posting_record p) → RisesInFront old last place p.key → to ≡ next → cost ≡ 1
       → Grows old new floor next to block p cost
-  in_tail : (home target place : ℕ) → Walks old floor next p.key home block → PutsTwo old new home target place p
-      → Leads old floor next target home → floor ≤ target → target + 256 ≤ next → IsLast old floor next home p.key target
+  in_tail : (home target place : ℕ) → WalksBlocks old floor next p.key home block → PutsTwo old new home target place p
+      → Leads old floor next target home → floor ≤ target → target + 256 ≤ next
+      → IsLastBlock old floor next home p.key target
       → to ≡ next → cost ≡ 2 → Grows old new floor next to block p cost
-  in_new_block : (home : ℕ) → Walks old floor next p.key home block → PutsTwo old new home next 0 p
+  in_new_block : (home : ℕ) → WalksBlocks old floor next p.key home block → PutsTwo old new home next 0 p
       → ((cell : ℕ) → next ≤ cell → old cell ≡ None) → IsLastFull old floor next home p.key → to ≡ next + 256
       → cost ≡ 258 → Grows old new floor next to block p cost
 

@@ -16,20 +16,20 @@ use Rattle.jump_block.specs.declared.held_entry.Entry.{Entry}
 use Rattle.jump_block.specs.declared.spans.Span.{Span}
 use Rattle.jump_block.specs.Pointing.{HasPointer, IsPointerPlace}
 use Rattle.jump_insertion.specs.Evidence.{ShowsBelow}
-use Rattle.jump_insertion.specs.Growing.{Rises, IsTop, EndsAt, EndsAtFull}
-use Rattle.jump_insertion.specs.Readiness.{IsOwnBlock, IsReached, IsListCell, IsReady}
+use Rattle.jump_insertion.specs.Growing.{RisesInFront, IsTop, EndsTrailAt, EndsAtFull}
+use Rattle.jump_insertion.specs.Readiness.{IsOwnBlock, IsBlockReached, IsListCell, IsReadyList}
 use Rattle.jump_insertion.specs.declared.entries.Spot.{Spot}
 
 -- why a step of an insertion gives no answer: a fault of the device, or evidence
-abbrev pub FaultEnds : ℕ → ℕ → ℕ → ViewState → ViewState → Fault → Type 0
-FaultEnds head floor key old new Failed = Rose old.base.faults new.base.faults
-FaultEnds head floor key old new (Tampered e) = IsTrue old.base.tells → ShowsBelow new head floor key e
+abbrev pub HopFaultEnds : ℕ → ℕ → ℕ → ViewState → ViewState → Fault → Type 0
+HopFaultEnds head floor key old new Failed = Rose old.base.faults new.base.faults
+HopFaultEnds head floor key old new (Tampered e) = IsTrue old.base.tells → ShowsBelow new head floor key e
 
 -- an insertion may go on at this block
 pub record IsAt (s : ViewState) (head floor next key block : ℕ) : Type 0 where
-  pub ready : IsReady s head floor next key
+  pub ready : IsReadyList s head floor next key
   pub own_block : IsOwnBlock s head block
-  pub reached : IsReached s head floor block
+  pub reached : IsBlockReached s head floor block
 
 -- the pointer in this cell of the block stands below, and so does the block that it leads to
 pub record IsOldHop (s : ViewState) (head floor block cell target : ℕ) : Type 0 where
@@ -41,17 +41,17 @@ pub record IsOldHop (s : ViewState) (head floor block cell target : ℕ) : Type 
 -- the span's pointer leads on to the target, where an insertion may go on
 pub record IsHop (s : ViewState) (head floor next key block : ℕ) (span : Span) (target : ℕ) : Type 0 where
   pub own_block : IsOwnBlock s head target
-  pub reached : IsReached s head floor target
+  pub reached : IsBlockReached s head floor target
   pub pointer : IsListCell s head floor next key (pointer_at block span.level span.digit) block
       ⊎ IsOldHop s head floor block (pointer_at block span.level span.digit) target
 
 -- the target lies in the pool, and an insertion may go on there; or the pointer is evidence
-abbrev pub CheckEnds : ℕ → ℕ → ℕ → ℕ → ℕ → Span → ℕ → ViewState → Result Unit Fault → Type 0
-CheckEnds head floor next key block span target s (Ok done) =
+abbrev pub TargetCheckEnds : ℕ → ℕ → ℕ → ℕ → ℕ → Span → ℕ → ViewState → Result Unit Fault → Type 0
+TargetCheckEnds head floor next key block span target s (Ok done) =
     (floor ≤ target) × (target + 256 ≤ next)
     × (IsTrue s.base.tells → IsHop s head floor next key block span target)
-CheckEnds head floor next key block span target s (Err Failed) = ⊥
-CheckEnds head floor next key block span target s (Err (Tampered e)) =
+TargetCheckEnds head floor next key block span target s (Err Failed) = ⊥
+TargetCheckEnds head floor next key block span target s (Err (Tampered e)) =
     IsTrue s.base.tells → ShowsBelow s head floor key e
 
 -- the fault names this posting
@@ -100,10 +100,10 @@ pub record FindsGreatest (block l bound : ℕ) (old new : ViewState) (result : R
 -- smaller key.
 pub record IsSpot (s : ViewState) (head floor key home block place : ℕ) : Type 0 where
   pub own_block : IsOwnBlock s head block
-  pub reached : IsReached s head floor block
+  pub reached : IsBlockReached s head floor block
   pub apart : (block ≡ home) ⊎ AreApart block 256 home 256
   pub blank : s.image (block + place) ≡ None
-  pub rises : Rises s.image block place key
+  pub rises : RisesInFront s.image block place key
 
 -- the list's tail has a blank place, or is full
 abbrev pub TailEnds : ℕ → ℕ → ℕ → ℕ → ℕ → ViewState → ViewState → Result (Option Spot) Fault → Type 0
@@ -111,7 +111,7 @@ TailEnds head floor next key home old new (Ok None) = ⊤
 TailEnds head floor next key home old new (Ok (Some spot)) =
     (spot.place < 128) × (floor ≤ spot.block) × (spot.block + 256 ≤ next)
     × (IsTrue old.base.tells → IsSpot new head floor key home spot.block spot.place)
-TailEnds head floor next key home old new (Err fault) = FaultEnds head floor key old new fault
+TailEnds head floor next key home old new (Err fault) = HopFaultEnds head floor key old new fault
 
 -- the search for a list's tail
 pub record FindsTail (head floor next key home : ℕ) (old new : ViewState) (result : Result (Option Spot) Fault)
@@ -132,7 +132,7 @@ abbrev pub TailLast : ℕ → ℕ → ℕ → ℕ → ViewState → ViewState �
 TailLast floor next block bound old new (Ok (Some spot)) =
     IsTrue old.base.tells → IsStill old.base.foreign_writes new.base.foreign_writes
     → (head at : ℕ) (q : PostingFields) → IsTop old.image floor next head q → Leads old.image floor next block head
-    → q.key < bound → Trail old.image floor next at q block → EndsAt old.image floor next at q spot.block block
+    → q.key < bound → Trail old.image floor next at q block → EndsTrailAt old.image floor next at q spot.block block
 TailLast floor next block bound old new (Ok None) =
     IsTrue old.base.tells → IsStill old.base.foreign_writes new.base.foreign_writes
     → (head at : ℕ) (q : PostingFields) → IsTop old.image floor next head q → Leads old.image floor next block head

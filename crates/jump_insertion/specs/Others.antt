@@ -4,7 +4,7 @@ use Rattle.cell_types.specs.Image.{Image}
 use Rattle.volume_meaning.specs.Blocks.{PostingFields, Leads}
 use Rattle.volume_meaning.specs.Nodes.{AreApart}
 use Rattle.ingest_laws.specs.ListShapes.{IsWellListed}
-use Rattle.jump_insertion.specs.Costs.{HaveTrails, HaveKeysBelow}
+use Rattle.jump_insertion.specs.Costs.{ListHasTrails, HaveKeysBelow}
 use Rattle.jump_insertion.specs.Growing.{Grows}
 
 -- no block of one list meets one of the other
@@ -18,7 +18,7 @@ pub record StandsAside (old new : Image) (floor next to head other : ℕ) : Type
   pub well : IsWellListed new floor to other
   pub blocks : (block : ℕ) → Leads new floor to block other → Leads old floor next block other
   pub apart : ListsAreApart new floor to head other
-  pub trails : HaveTrails old floor next other → HaveTrails new floor to other
+  pub trails : ListHasTrails old floor next other → ListHasTrails new floor to other
   pub keys : (key : ℕ) → HaveKeysBelow old floor next other key → HaveKeysBelow new floor to other key
 
 -- where one list grows, another that lies apart from it stands aside

@@ -9,33 +9,33 @@ use Rattle.worm_device.specs.Calls.{Called}
 use Rattle.worm_device.specs.Counts.{IsStill}
 use Rattle.worm_device.specs.Views.{ViewState, Viewed}
 use Rattle.jump_insertion.specs.Growing.{Grows}
-use Rattle.jump_insertion.specs.Hopping.{FaultEnds}
+use Rattle.jump_insertion.specs.Hopping.{HopFaultEnds}
 use Rattle.jump_insertion.specs.Inserting.{PlansEntry}
-use Rattle.jump_insertion.specs.Readiness.{IsReady}
+use Rattle.jump_insertion.specs.Readiness.{IsReadyList}
 use Rattle.jump_insertion.specs.declared.entries.Spot.{Spot}
 
 -- What was shown is shown still, the posting has a trail from the block, whose front has a key of this span, and
 -- postings with greater keys may be inserted.
-pub record IsPlaced (head floor to block : ℕ) (p : PostingFields) (low bound at : ℕ)
+pub record IsPostingPlaced (head floor to block : ℕ) (p : PostingFields) (low bound at : ℕ)
     (old new : ViewState) : Type 0 where
   pub shown : Extends old.image new.image
   pub trail : Trail new.image floor to at p block
   pub has : HasKeyIn new.image block low bound
-  pub ready : (key : ℕ) → p.key < key → IsReady new head floor to key
+  pub ready : (key : ℕ) → p.key < key → IsReadyList new head floor to key
 
 -- the posting is inserted; or the block is full and has no key of the span; or reads alone met a fault; or there is no
 -- memory
-abbrev pub PlaceEnds : ℕ → ℕ → ℕ → ℕ → PostingFields → ℕ → ℕ → ViewState → ViewState
+abbrev pub PlacePostingEnds : ℕ → ℕ → ℕ → ℕ → PostingFields → ℕ → ℕ → ViewState → ViewState
     → Result (Option Spot) GrowthFault → Type 0
-PlaceEnds head floor to block p low bound old new (Ok (Some spot)) =
-    IsTrue old.base.tells → IsPlaced head floor to block p low bound (spot.block + spot.place) old new
-PlaceEnds head floor to block p low bound old new (Ok None) =
+PlacePostingEnds head floor to block p low bound old new (Ok (Some spot)) =
+    IsTrue old.base.tells → IsPostingPlaced head floor to block p low bound (spot.block + spot.place) old new
+PlacePostingEnds head floor to block p low bound old new (Ok None) =
     Viewed old new
     × (IsTrue old.base.tells → (place : ℕ) (q : PostingFields) → place < 128 → InFront new.image block place q
     → q.key < low)
-PlaceEnds head floor to block p low bound old new (Err (Fault fault)) =
-    FaultEnds head floor p.key old new fault × (IsTrue old.base.tells → Viewed old new)
-PlaceEnds head floor to block p low bound old new (Err NoMemory) = ⊤
+PlacePostingEnds head floor to block p low bound old new (Err (Fault fault)) =
+    HopFaultEnds head floor p.key old new fault × (IsTrue old.base.tells → Viewed old new)
+PlacePostingEnds head floor to block p low bound old new (Err NoMemory) = ⊤
 
 -- inserting a posting in or behind a block, where the pool's next cell is that one then
 pub record PlacesPosting (head floor to block : ℕ) (p : PostingFields) (low bound : ℕ) (old new : ViewState)
@@ -46,7 +46,7 @@ pub record PlacesPosting (head floor to block : ℕ) (p : PostingFields) (low bo
   pub loans : new.loans ≡ old.loans
   pub lower : Extends old.lower new.lower
   pub quiet : IsStill old.base.foreign_writes new.base.foreign_writes → IsUnchanged old.base.image new.base.image
-  pub ends : PlaceEnds head floor to block p low bound old new result
+  pub ends : PlacePostingEnds head floor to block p low bound old new result
 
 -- The posting is planned at this place, and at most a pointer besides; nothing is planned from the pool's next cell on.
 pub record HasPlanned (head floor next to : ℕ) (p : PostingFields) (spot : Spot) (old new : ViewState) : Type 0 where

@@ -18,11 +18,11 @@ pub record WasPlanned (at : ℕ) (s : ViewState) (e : Evidence) : Type 0 where
   pub planned : s.planned at ≡ Some e.found
 
 -- the record is planned; or the cell was planned already, and is evidence; or there is no memory
-abbrev pub PutEnds : ℕ → RecordCell → Owner → ViewState → ViewState → Result Unit GrowthFault → Type 0
-PutEnds at r owner old new (Ok done) = HoldsPlanned at r owner old new
-PutEnds at r owner old new (Err (Fault Failed)) = ⊥
-PutEnds at r owner old new (Err (Fault (Tampered e))) = WasPlanned at old e
-PutEnds at r owner old new (Err NoMemory) = ⊤
+abbrev pub PutRecordEnds : ℕ → RecordCell → Owner → ViewState → ViewState → Result Unit GrowthFault → Type 0
+PutRecordEnds at r owner old new (Ok done) = HoldsPlanned at r owner old new
+PutRecordEnds at r owner old new (Err (Fault Failed)) = ⊥
+PutRecordEnds at r owner old new (Err (Fault (Tampered e))) = WasPlanned at old e
+PutRecordEnds at r owner old new (Err NoMemory) = ⊤
 
 -- planning the cell of one record leaves what stands below, and what is planned in other cells
 pub record PutsRecord (at : ℕ) (r : RecordCell) (owner : Owner) (old new : ViewState) (result : Result Unit GrowthFault)
@@ -34,7 +34,7 @@ pub record PutsRecord (at : ℕ) (r : RecordCell) (owner : Owner) (old new : Vie
   pub loans : new.loans ≡ old.loans
   pub others : (cell : ℕ) → cell ≢ at
       → (new.image cell ≡ old.image cell) × (new.planned cell ≡ old.planned cell) × (new.owners cell ≡ old.owners cell)
-  pub ends : PutEnds at r owner old new result
+  pub ends : PutRecordEnds at r owner old new result
 
 -- a posting is planned at its place, and then a pointer to its block, each for its own block
 pub record PlansTwo (spot : Spot) (pointer : ℕ) (p : PostingFields) (owner home_owner : Owner) (old new : ViewState)

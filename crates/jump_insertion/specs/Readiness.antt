@@ -16,9 +16,9 @@ pub record IsOwnBlock (s : ViewState) (head block : ℕ) : Type 0 where
       → (owner.base ≡ block) ⊎ AreApart owner.base 256 block 256
 
 -- The block is new, or one of the list as it stands below.
-pub data IsReached (s : ViewState) (head floor block : ℕ) : Type 0 where
-  is_new : s.fresh ≤ block → IsReached s head floor block
-  stands_below : block + 256 ≤ s.fresh → Leads s.lower floor s.fresh block head → IsReached s head floor block
+pub data IsBlockReached (s : ViewState) (head floor block : ℕ) : Type 0 where
+  is_new : s.fresh ≤ block → IsBlockReached s head floor block
+  stands_below : block + 256 ≤ s.fresh → Leads s.lower floor s.fresh block head → IsBlockReached s head floor block
 
 -- A planned cell of a block is a posting of its front with a key below this one, or a pointer to a block that has a
 -- planned posting of the pointer's span.
@@ -34,13 +34,13 @@ pub data IsListCell (s : ViewState) (head floor next key cell base : ℕ) : Type
 -- A posting with this key may be inserted into the list that begins at head, whose other blocks lie from `floor` on:
 -- what is planned for the list was planned by insertions of smaller keys, in blocks of its own that lie before the
 -- pool's next cell; and nobody else has planned a cell in them, or in the first block.
-pub record IsReady (s : ViewState) (head floor next key : ℕ) : Type 0 where
+pub record IsReadyList (s : ViewState) (head floor next key : ℕ) : Type 0 where
   pub first : IsOwnBlock s head head
   pub mine : (cell : ℕ) (owner : Owner) → s.owners cell ≡ Some owner → owner.head ≡ head
       → IsListCell s head floor next key cell owner.base
   pub named : (cell : ℕ) (owner : Owner) → s.owners cell ≡ Some owner → owner.head ≡ head → IsOwnBlock s head owner.base
   pub reached : (cell : ℕ) (owner : Owner) → s.owners cell ≡ Some owner → owner.head ≡ head
-      → IsReached s head floor owner.base
+      → IsBlockReached s head floor owner.base
   pub inside : (cell : ℕ) (owner : Owner) → s.owners cell ≡ Some owner → owner.head ≡ head
       → (owner.base ≤ cell) × (cell < owner.base + 256) × (owner.base + 256 ≤ next)
 

@@ -4,8 +4,8 @@ ghost use Rattle.volume_meaning.specs.declared.blocks.TheConstants.{BLOCK_CELLS}
 ghost use Rattle.worm_device.specs.declared.overlay.TheConstants.{OVERLAY_CELLS};
 ghost use Rattle.jump_block.specs.Pointing.{HasFull, HasPointer};
 ghost use Rattle.worm_device.specs.Overlays.{of_overlay};
-ghost use Rattle.jump_insertion.specs.Hopping.{CheckEnds, FindsTail, IsAt, IsLateEvidence, TailLast, TailLeads};
-ghost use Rattle.jump_insertion.specs.Readiness.{IsOwnBlock, IsReached};
+ghost use Rattle.jump_insertion.specs.Hopping.{TargetCheckEnds, FindsTail, IsAt, IsLateEvidence, TailLast, TailLeads};
+ghost use Rattle.jump_insertion.specs.Readiness.{IsOwnBlock, IsBlockReached};
 
 use crate::entries::{FullBlock, ListWalk, Spot};
 use crate::meeting::is_met;
@@ -33,7 +33,7 @@ pub(crate) fn check_target<V: View>(
         IsAt (of_overlay V.seen overlay.now) walk.list.head walk.list.floor walk.next walk.key block }
     requires jump { IsTrue (of_overlay V.seen overlay.now).base.tells →
         HasPointer (of_overlay V.seen overlay.now).image block span.now.level span.now.digit target }
-    ensures { CheckEnds walk.list.head walk.list.floor walk.next walk.key block span.now target
+    ensures { TargetCheckEnds walk.list.head walk.list.floor walk.next walk.key block span.now target
         (of_overlay V.seen overlay.now) result }
 {
     if target < walk.list.floor || u64::from(target) + 256 > u64::from(walk.next) {
@@ -87,7 +87,7 @@ pub(crate) fn tail<V: View>(
     requires home_own { IsTrue (of_overlay V.seen overlay.old).base.tells →
         IsOwnBlock (of_overlay V.seen overlay.old) walk.list.head home }
     requires home_reached { IsTrue (of_overlay V.seen overlay.old).base.tells →
-        IsReached (of_overlay V.seen overlay.old) walk.list.head walk.list.floor home }
+        IsBlockReached (of_overlay V.seen overlay.old) walk.list.head walk.list.floor home }
     ensures finds { FindsTail walk.list.head walk.list.floor walk.next walk.key home
         (of_overlay V.seen overlay.old) (of_overlay V.seen overlay.new) result }
     ensures leads { TailLeads walk.list.floor walk.next full.block

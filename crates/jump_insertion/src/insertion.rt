@@ -1,6 +1,6 @@
 //! Inserting a posting.
 ghost use Rattle.std.specs.Prelude.{◌≡◌, ◌<◌, ◌≤◌, ◌+◌, ◌%◌, ◌^◌, ◌⊎◌, ℕ, None, IfNone, IfOk, IsTrue};
-ghost use Rattle.cell_pool.specs.Grants.{TakesFront, room_of};
+ghost use Rattle.cell_pool.specs.Grants.{TakesFront, free_cells};
 ghost use Rattle.volume_meaning.specs.declared.blocks.TheConstants.{BLOCK_CELLS};
 ghost use Rattle.volume_meaning.specs.Blocks.{pointer_at};
 ghost use Rattle.jump_block.specs.Spans.{IsSpan};
@@ -9,7 +9,7 @@ ghost use Rattle.worm_device.specs.Overlays.{of_overlay};
 ghost use Rattle.jump_insertion.specs.Hopping.{IsAt};
 ghost use Rattle.jump_insertion.specs.Inserting.{InsertsPosting, fields_of};
 ghost use Rattle.jump_insertion.specs.Placing.{GrowEnds, PlacesPosting, PlannedEnds};
-ghost use Rattle.jump_insertion.specs.Readiness.{IsReady};
+ghost use Rattle.jump_insertion.specs.Readiness.{IsReadyList};
 
 use crate::entries::{FullBlock, ListBlocks, ListWalk, NewEntry, Spot};
 use crate::hops::{check_target, late_posting, tail};
@@ -35,10 +35,10 @@ pub fn insert<V: View>(
     requires head { head + BLOCK_CELLS ≤ floor }
     requires floor { floor ≤ (of_overlay V.seen overlay.old).fresh }
     requires fresh { (of_overlay V.seen overlay.old).fresh ≤ pool.old.next }
-    requires room { BLOCK_CELLS ≤ room_of pool.old }
+    requires room { BLOCK_CELLS ≤ free_cells pool.old }
     requires free { (cell : ℕ) → pool.old.next ≤ cell → (of_overlay V.seen overlay.old).planned cell ≡ None }
     requires ready { IsTrue (of_overlay V.seen overlay.old).base.tells →
-        IsReady (of_overlay V.seen overlay.old) head floor pool.old.next new_entry.key }
+        IsReadyList (of_overlay V.seen overlay.old) head floor pool.old.next new_entry.key }
     ensures pool { (pool.new ≡ pool.old) ⊎ TakesFront pool.old pool.new BLOCK_CELLS pool.old.next }
     ensures inserts { InsertsPosting head floor pool.old.next pool.new.next (fields_of new_entry)
         (of_overlay V.seen overlay.old) (of_overlay V.seen overlay.new) result }
@@ -80,7 +80,7 @@ fn insert_from<V: View>(
     requires head { list.head + BLOCK_CELLS ≤ list.floor }
     requires lies { (block ≡ list.head) ⊎ (list.floor ≤ block) }
     requires before { block + BLOCK_CELLS ≤ pool.old.next }
-    requires room { BLOCK_CELLS ≤ room_of pool.old }
+    requires room { BLOCK_CELLS ≤ free_cells pool.old }
     requires floor { list.floor ≤ pool.old.next }
     requires fresh { (of_overlay V.seen overlay.old).fresh ≤ pool.old.next }
     requires free { (cell : ℕ) → pool.old.next ≤ cell → (of_overlay V.seen overlay.old).planned cell ≡ None }
@@ -157,7 +157,7 @@ fn insert_behind<V: View>(
     requires head { list.head + BLOCK_CELLS ≤ list.floor }
     requires lies { (full.block ≡ list.head) ⊎ (list.floor ≤ full.block) }
     requires before { full.block + BLOCK_CELLS ≤ pool.old.next }
-    requires room { BLOCK_CELLS ≤ room_of pool.old }
+    requires room { BLOCK_CELLS ≤ free_cells pool.old }
     requires floor { list.floor ≤ pool.old.next }
     requires fresh { (of_overlay V.seen overlay.old).fresh ≤ pool.old.next }
     requires free { (cell : ℕ) → pool.old.next ≤ cell → (of_overlay V.seen overlay.old).planned cell ≡ None }

@@ -22,7 +22,7 @@
 //! **No cell is trusted.** Evidence is an entry out of order, a posting whose key is not below the new one, or a
 //! pointer that leads nowhere or into cells that are planned for something else. It stands below what is planned, and
 //! whoever names it has planned nothing. A list that stands as it should, with keys below the new one, gives none as
-//! long as nobody else writes (`InsertEnds`).
+//! long as nobody else writes (`InsertPostingEnds`).
 //!
 //! **Not claimed**: that there is memory. Whoever is refused gives up all that was planned.
 //!

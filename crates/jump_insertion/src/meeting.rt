@@ -2,7 +2,7 @@
 ghost use Rattle.std.specs.Prelude.{◌≡◌, ◌<◌, ◌≤◌, ◌+◌, ◌^◌, IfNone, IfSome, IsTrue, IsFalse};
 ghost use Rattle.volume_meaning.specs.declared.blocks.TheConstants.{BLOCK_CELLS};
 ghost use Rattle.worm_device.specs.Overlays.{of_overlay};
-ghost use Rattle.jump_insertion.specs.Evidence.{IsMet};
+ghost use Rattle.jump_insertion.specs.Evidence.{IsBlockMet};
 ghost use Rattle.jump_insertion.specs.Meeting.{AreUnowned, LieInBlocks, Meets};
 ghost use Rattle.jump_insertion.specs.Readiness.{IsOwnBlock};
 
@@ -14,7 +14,7 @@ pub(crate) fn is_met<V: View>(overlay: &Overlay<'_, V>, head: u32, block: u32) -
     requires inside { block + BLOCK_CELLS < 2 ^ 32 }
     requires lies { IsTrue (of_overlay V.seen overlay.now).base.tells →
         LieInBlocks (of_overlay V.seen overlay.now) head }
-    ensures met { IsTrue result → IsMet (of_overlay V.seen overlay.now) head block }
+    ensures met { IsTrue result → IsBlockMet (of_overlay V.seen overlay.now) head block }
     ensures own { IsFalse result → IsTrue (of_overlay V.seen overlay.now).base.tells →
         IsOwnBlock (of_overlay V.seen overlay.now) head block }
 {

@@ -14,7 +14,7 @@ use Rattle.term_tags.specs.Listing.{GivesListed, GivesNone, MayHaveStamp}
 use Rattle.term_tags.proofs.TooMany.{too_many_is_one}
 use Rattle.kept_documents.specs.HashTrails.{AsksPath}
 use Rattle.kept_documents.specs.Indexed.{AsksIndexed, IsLedTo}
-use Rattle.kept_documents.specs.Postings.{AreListed, AreTrailed, AsksPostings, AsksRows}
+use Rattle.kept_documents.specs.Postings.{AreOfLists, AreTrailed, AsksPostings, AsksRows}
 use Rattle.kept_documents.specs.Stamps.{AsksStamp}
 use Rattle.kept_documents.specs.declared.fault.AskFault.{AskFault}
 use Rattle.kept_documents.specs.declared.fault.AskFault.TheVariants.{NoMemory, ReadFault}
@@ -57,7 +57,7 @@ given g body n stamp rule is_rule lists terms words rows handed count may are sa
 
 -- each posting is of one of the lists
 pub are_listed : {g : Layout} {body : List ℕ} {n : ℕ} {stamp : Option ℕ} {rows : List ListedPosting}
-    → ArePostings g stamp body n rows → AreListed (all_lists g) rows
+    → ArePostings g stamp body n rows → AreOfLists (all_lists g) rows
 are_listed are i row is = (are.each i row is).0
 
 module _ (g : Layout) (n : ℕ) (body : List ℕ) (stamp : Option ℕ) (old : ViewState) where

@@ -20,7 +20,7 @@ use Rattle.worm_device.specs.declared.device.Failed.{Failed}
 use Rattle.worm_device.proofs.Resting.{viewed_self}
 use Rattle.commit_record.specs.States.{IsNoState, done_abandoned, done_unended, done_unreserved, done_wrongly, ends_unreserved, ends_unstamped, ends_wrongly, reserves_none}
 use Rattle.commit_record.proofs.Breaking.{no_both}
-use Rattle.document_store.specs.Looks.{LookFails, Names, PartEnds, SameEnds, of_document, of_state}
+use Rattle.document_store.specs.Looks.{LookFails, NamesDocument, PartEnds, SameEnds, of_document, of_state}
 use Rattle.document_store.specs.Standing.{HoldsDocument}
 use Rattle.document_store.proofs.Holding.{held_is_done, held_stands, stands_held}
 use Rattle.kept_documents.specs.HashTrails.{AsksPassed, HasFingerprint, IsOtherBucket}
@@ -74,7 +74,7 @@ stands_later {old} {new} {n} {id} {body} viewed stands =
 
 -- of a slot that holds a document no look names evidence
 pub names_none : {g : Layout} {n : ℕ} {old new : ViewState} {e : Evidence} {id body : List ℕ} → Viewed old new
-    → Names g n old new e → HoldsDocument g old.image n id body → ⊥
+    → NamesDocument g n old new e → HoldsDocument g old.image n id body → ⊥
 names_none viewed (of_state out) h = no_state_done viewed.image out.seen (held_is_done h)
 names_none {id = id} {body = body} viewed (of_document b) h = b.none id body h
 

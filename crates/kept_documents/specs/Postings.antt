@@ -11,8 +11,8 @@ use Rattle.kept_documents.specs.declared.fault.AskFault.{AskFault}
 use Rattle.kept_documents.specs.declared.fault.AskFault.TheVariants.{NoMemory, ReadFault}
 
 -- each posting's list is one of so many
-abbrev pub AreListed : ℕ → List ListedPosting → Type 0
-AreListed lists rows = (i : ℕ) (row : ListedPosting) → slice_get rows i ≡ Some row → row.list < lists
+abbrev pub AreOfLists : ℕ → List ListedPosting → Type 0
+AreOfLists lists rows = (i : ℕ) (row : ListedPosting) → slice_get rows i ≡ Some row → row.list < lists
 
 -- the posting has a trail from its list's first block
 abbrev pub IsTrailed : Layout → ViewState → ListedPosting → Type 0

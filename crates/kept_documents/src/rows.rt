@@ -1,7 +1,7 @@
 //! Whether postings have their trails.
 ghost use Rattle.std.specs.Prelude.{◌<◌, ◌≤◌};
 ghost use Rattle.cell_types.specs.Layout.{all_lists};
-ghost use Rattle.kept_documents.specs.Postings.{AreListed, AsksRow, AsksRows};
+ghost use Rattle.kept_documents.specs.Postings.{AreOfLists, AsksRow, AsksRows};
 
 use crate::trails::has_trail;
 use crate::wanted::Wanted;
@@ -16,7 +16,7 @@ pub(crate) fn are_trailed<V: View>(
     rows: &[ListedPosting],
 ) -> Result<bool, Failed>
     requires size { geometry.now.cells ≤ (V.seen view.old).cells }
-    requires lists { AreListed (all_lists geometry.now) rows.now }
+    requires lists { AreOfLists (all_lists geometry.now) rows.now }
     ensures { AsksRows geometry.now rows.now (V.seen view.old) (V.seen view.new) result }
 {
     for row in rows {

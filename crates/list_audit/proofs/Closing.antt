@@ -9,14 +9,14 @@ use Rattle.cell_types.specs.declared.record_cell.RecordCell.TheVariants.{Jump}
 use Rattle.volume_meaning.proofs.Holding.{one_record_holds}
 use Rattle.volume_meaning.specs.Blocks.{Leads, arrived, onwards}
 use Rattle.volume_meaning.specs.Nodes.{IsBlockOf}
-use Rattle.list_audit.specs.Blocks.{IsAmong, AreOnce, AreListBlocks, PointsTo, Adds, LeadsAmong, AreClosedBelow}
+use Rattle.list_audit.specs.Blocks.{IsAmongBlocks, AreOnce, AreListBlocks, PointsTo, AddsBlock, LeadsAmong, AreClosedBelow}
 use Rattle.list_audit.specs.declared.listed.ListBlock.{ListBlock}
 
 earlier_or_last : (k n : ℕ) → k < n + 1 → (k < n) ⊎ (k ≡ n)
 earlier_or_last k n h = grind arith
 
 -- what is among the blocks is among more
-pub among_more : {l block : ℕ} {old new : List ListBlock} → Adds l block old new → (m other : ℕ) → IsAmong old m other → IsAmong new m other
+pub among_more : {l block : ℕ} {old new : List ListBlock} → AddsBlock l block old new → (m other : ℕ) → IsAmongBlocks old m other → IsAmongBlocks new m other
 among_more adds m other a = record { place = a.place; one = a.one; there = adds.keeps a.place a.one a.there; list = a.list; is = a.is }
 
 -- the first block of a list is one of its
@@ -26,7 +26,7 @@ first_is g image l less = record { list = less; leads = arrived (list_at g l) re
 -- the first blocks of the lists below n were found
 pub record AreFirstBelow (g : Layout) (n : ℕ) (blocks : List ListBlock) : Type 0 where
   pub reached : (i : ℕ) (b : ListBlock) → slice_get blocks i ≡ Some b → (b.list < all_lists g) × (b.block ≡ list_at g b.list)
-  pub firsts : (l : ℕ) → l < n → IsAmong blocks l (list_at g l)
+  pub firsts : (l : ℕ) → l < n → IsAmongBlocks blocks l (list_at g l)
 
 pub no_first : (g : Layout) (blocks : List ListBlock) → blocks ≡ [] → AreFirstBelow g 0 blocks
 no_first g blocks none = subst (AreFirstBelow g 0) (sym none) (record {
@@ -35,7 +35,7 @@ no_first g blocks none = subst (AreFirstBelow g 0) (sym none) (record {
 })
 
 pub one_first : {g : Layout} {n block : ℕ} {old new : List ListBlock} → AreFirstBelow g n old → n < all_lists g → block ≡ list_at g n
-    → Adds n block old new → AreFirstBelow g (n + 1) new
+    → AddsBlock n block old new → AreFirstBelow g (n + 1) new
 one_first {g} {n} {block} {old} {new} are less at adds = record {
   reached = λ i b there. ⊎_elim
       (λ (before : slice_get old i ≡ Some b). are.reached i b before)
@@ -46,7 +46,7 @@ one_first {g} {n} {block} {old} {new} are less at adds = record {
       (adds.only i b there);
   firsts = λ l below. ⊎_elim
       (λ (earlier : l < n). among_more adds l (list_at g l) (are.firsts l earlier))
-      (λ (same : l ≡ n). subst (λ (m : ℕ). IsAmong new m (list_at g m)) (sym same) (subst (IsAmong new n) at adds.has))
+      (λ (same : l ≡ n). subst (λ (m : ℕ). IsAmongBlocks new m (list_at g m)) (sym same) (subst (IsAmongBlocks new n) at adds.has))
       (earlier_or_last l n below);
 }
 
@@ -121,7 +121,7 @@ no_target {g} {image} {n} {from} {pointer} {blocks} w none = record {
 -- a pointer that leads to a block, which was added
 pub one_more : {g : Layout} {image : Image} {n : ℕ} {from : ListBlock} {pointer target : ℕ} {old new : List ListBlock}
     → IsFollowed g image n from pointer old → 128 ≤ pointer → pointer < 248 → PointsTo g image (from.block + pointer) target
-    → Adds from.list target old new → IsFollowed g image n from (pointer + 1) new
+    → AddsBlock from.list target old new → IsFollowed g image n from (pointer + 1) new
 one_more {g} {image} {n} {from} {pointer} {target} {old} {new} w low high points adds = record {
   below = record {
     reached = λ i b there. ⊎_elim
@@ -136,7 +136,7 @@ one_more {g} {image} {n} {from} {pointer} {target} {old} {new} w low high points
   here = adds.keeps n from w.here;
   leads = λ p t from' to h. ⊎_elim
       (λ (less : p < pointer). among_more adds from.list t (w.leads p t from' less h))
-      (λ (same : p ≡ pointer). subst (IsAmong new from.list)
+      (λ (same : p ≡ pointer). subst (IsAmongBlocks new from.list)
       (one_target points (subst (λ (q : ℕ). PointsTo g image (from.block + q) t) same h)) adds.has)
       (earlier_or_last p pointer to);
 }
@@ -158,7 +158,7 @@ turn_done {g} {image} {n} {from} {pointer} {blocks} w past = record {
       (λ (earlier : i < n). w.below.closed i b earlier there p t low high h)
       (λ (same : i ≡ n). let e : Some from ≡ Some b = sym w.here ∙ subst (λ (k : ℕ). slice_get blocks k ≡ Some b) same there in
       let eq : from ≡ b = cc in
-      subst (λ (c : ListBlock). IsAmong blocks c.list t) eq (w.leads p t low (omega (arith, high, past))
+      subst (λ (c : ListBlock). IsAmongBlocks blocks c.list t) eq (w.leads p t low (omega (arith, high, past))
       (subst (λ (c : ListBlock). PointsTo g image (c.block + p) t) (sym eq) h)))
       (earlier_or_last i n less);
 }
@@ -182,12 +182,12 @@ all_found {g} {image} {n} {blocks} below once none = record {
   once = once;
 }
   where
-    from : (l block start : ℕ) → Leads image (pool_at g) g.cells block start → IsAmong blocks l start → IsAmong blocks l block
-    from l block start (arrived b same) a = subst (IsAmong blocks l) same a
+    from : (l block start : ℕ) → Leads image (pool_at g) g.cells block start → IsAmongBlocks blocks l start → IsAmongBlocks blocks l block
+    from l block start (arrived b same) a = subst (IsAmongBlocks blocks l) same a
     from l block start (onwards b level digit target x y z jump low high rest) a =
         let inside = slice_get_within blocks a.place a.one a.there in
         let past = past_blocks blocks n none in
         let points : PointsTo g image (a.one.block + (127 + 15 * level + digit)) target =
         subst (λ (k : ℕ). PointsTo g image (k + (127 + 15 * level + digit)) target) (sym a.is) (record { held = jump; from = low; to = high }) in
-        from l block target rest (subst (λ (m : ℕ). IsAmong blocks m target) a.list
+        from l block target rest (subst (λ (m : ℕ). IsAmongBlocks blocks m target) a.list
         (below.closed a.place a.one (omega (arith, inside, past)) a.there (127 + 15 * level + digit) target (omega arith) (omega arith) points))

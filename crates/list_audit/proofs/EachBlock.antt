@@ -7,7 +7,7 @@ use Rattle.cell_types.specs.Layout.{Layout}
 use Rattle.cell_types.specs.declared.refusal.Evidence.{Evidence}
 use Rattle.volume_meaning.specs.Nodes.{IsBlockOf}
 use Rattle.tamper_rules.specs.Rules.{Rule, IsMet}
-use Rattle.log_audit.specs.Findings.{Finds}
+use Rattle.log_audit.specs.Findings.{FindsBroken}
 use Rattle.log_audit.specs.Least.{FindsPart, lower_finding}
 use Rattle.log_audit.proofs.Parts.{AskedBelow, as_asked, one_part, finds_all}
 use Rattle.list_audit.specs.Blocks.{AreListBlocks}
@@ -36,7 +36,7 @@ module _ (g : Layout) (image : Image) (rule : Rule) (blocks : List ListBlock) (A
       → FindsPart g image rule (AskedBelow (BlockAt blocks Asks) n) least → length blocks ≤ n
       → ((cell : ℕ) → ((l block : ℕ) → IsBlockOf g image l block → Asks l block cell) → IsMet g image rule cell)
       → ((cell : ℕ) → IsMet g image rule cell → (l block : ℕ) → IsBlockOf g image l block → Asks l block cell)
-      → Finds g image rule least
+      → FindsBroken g image rule least
   every_block n least are finds past met unmet = finds_all g image rule (AskedBelow (BlockAt blocks Asks) n) least finds
       (λ cell each. met cell (λ l block is.
       let a = are.all l block is in

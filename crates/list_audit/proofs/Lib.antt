@@ -1,7 +1,7 @@
 pub mod Closing
 pub mod EachBlock
 pub mod Holding
-pub mod Listed
+pub mod RowsListed
 pub mod Ordered
 pub mod Owing
 pub mod Placing

@@ -16,7 +16,7 @@ use Rattle.log_audit.specs.declared.log.Log.{Log}
 use Rattle.log_audit.proofs.Logged.{stores_of}
 use Rattle.log_audit.proofs.Storing.{stored_there, stored_is_live}
 use Rattle.list_audit.specs.Bodies.{AreRowsOf, HasNoRows}
-use Rattle.list_audit.specs.Owing.{IsOwed, AreOwed, KeepsPostingRule, BlockOwes}
+use Rattle.list_audit.specs.Owing.{IsPostingOwed, AreOwed, KeepsPostingRule, BlockOwes}
 use Rattle.list_audit.specs.Tables.{AddsRows, AreSameRows, FitsRow, HasRow, number_of}
 use Rattle.list_audit.proofs.Trailing.{one_stamp}
 
@@ -40,7 +40,7 @@ module _ (g : Layout) (image : Image) where
 
   -- a slot of which nothing is owed
   pub nothing_more : (n : ℕ) (rows : List (ℕ × List ℕ)) → AreOwed g image n rows
-      → ((l : ℕ) (p : PostingFields) (o : IsOwed g image l p) → o.slot ≡ n → ⊥) → AreOwed g image (n + 1) rows
+      → ((l : ℕ) (p : PostingFields) (o : IsPostingOwed g image l p) → o.slot ≡ n → ⊥) → AreOwed g image (n + 1) rows
   nothing_more n rows so_far none l p fits = (
     λ has. let o = (so_far l p fits).0 has in (o.0, omega (arith, o.1)),
     λ owed. ⊎_elim
@@ -68,7 +68,7 @@ module _ (g : Layout) (image : Image) where
         (earlier_or_last owed.0.slot n owed.1),
   )
     where
-      there : (o : IsOwed g image l p) → o.slot ≡ n → (i : ℕ) × (slice_get added i ≡ Some (record { list = l; posting = p }))
+      there : (o : IsPostingOwed g image l p) → o.slot ≡ n → (i : ℕ) × (slice_get added i ≡ Some (record { list = l; posting = p }))
       there o same = at n (sym same) are
         where
           at : (m : ℕ) → m ≡ o.slot → AreRowsOf g image m added → (i : ℕ) × (slice_get added i ≡ Some (record { list = l; posting = p }))
@@ -78,18 +78,18 @@ module _ (g : Layout) (image : Image) where
               (one_stamp g image o.slot o.stamp r.0 o.is_stamp r.1) o.is)
 
   -- a slot that is not stored owes nothing, nor does one without postings
-  pub not_stored_owes : (n : ℕ) → ((a b c d : ℕ) → Stores g image n a b c d → ⊥) → (l : ℕ) (p : PostingFields) (o : IsOwed g image l p) → o.slot ≡ n → ⊥
+  pub not_stored_owes : (n : ℕ) → ((a b c d : ℕ) → Stores g image n a b c d → ⊥) → (l : ℕ) (p : PostingFields) (o : IsPostingOwed g image l p) → o.slot ≡ n → ⊥
   not_stored_owes n none l p o same =
       let h = subst (λ (k : ℕ). HoldsDocument g image k o.id o.body) same o.holds in
       none _ _ _ _ (record { commits = h.done.commits; done = inr h.done.done })
 
-  pub no_rows_owes : (n : ℕ) → HasNoRows g image n → (l : ℕ) (p : PostingFields) (o : IsOwed g image l p) → o.slot ≡ n → ⊥
+  pub no_rows_owes : (n : ℕ) → HasNoRows g image n → (l : ℕ) (p : PostingFields) (o : IsPostingOwed g image l p) → o.slot ≡ n → ⊥
   no_rows_owes n none l p o same =
       none o.id o.body (subst (λ (k : ℕ). HoldsDocument g image k o.id o.body) same o.holds) o.postings
 
 module _ (g : Layout) (image : Image) (log : Log) (volume : IsVolume g.cells image g) (is : IsLog g image log) where
   -- what is owed is true
-  owed_is_true : (l : ℕ) (p : PostingFields) → IsOwed g image l p → IsTruePosting g image l p
+  owed_is_true : (l : ℕ) (p : PostingFields) → IsPostingOwed g image l p → IsTruePosting g image l p
   owed_is_true l p o =
       let done = o.holds.done in
       let there = stores_of g image log is o.slot _ _ _ _ (record { commits = done.commits; done = inr done.done }) in
@@ -106,7 +106,7 @@ module _ (g : Layout) (image : Image) (log : Log) (volume : IsVolume g.cells ima
       }
 
   -- what is true is owed
-  true_is_owed : (l : ℕ) (p : PostingFields) → l < all_lists g → IsTruePosting g image l p → IsOwed g image l p
+  true_is_owed : (l : ℕ) (p : PostingFields) → l < all_lists g → IsTruePosting g image l p → IsPostingOwed g image l p
   true_is_owed l p less t = record {
     list = less;
     slot = t.slot;
@@ -130,15 +130,15 @@ module _ (g : Layout) (image : Image) (log : Log) (volume : IsVolume g.cells ima
 
 -- a posting of the table is owed, and one that is owed is of the table
 pub of_table : (g : Layout) (image : Image) (rows : List (ℕ × List ℕ)) (l : ℕ) (p : PostingFields) → AreOwed g image g.slots rows → FitsRow l p
-    → (HasRow rows l p ↔ IsOwed g image l p)
+    → (HasRow rows l p ↔ IsPostingOwed g image l p)
 of_table g image rows l p are fits =
     (λ has. ((are l p fits).0 has).0, λ o. (are l p fits).1 (o, o.holds.done.commits.reserves.slot))
 
 -- the posting that stands there is the one that was found
 pub found_owed : (g : Layout) (image : Image) (l block place : ℕ) {found : Option PostingFields} {q : PostingFields}
     → ((p : PostingFields) → Holds image (block + place) (posting_record p) → found ≡ Some p) → found ≡ Some q
-    → IsOwed g image l q → KeepsPostingRule g image l block place
+    → IsPostingOwed g image l q → KeepsPostingRule g image l block place
 found_owed g image l block place {found} {q} one is owed p holds =
     let both : Some q ≡ Some p = sym is ∙ one p holds in
     let same : q ≡ p = cc in
-    subst (IsOwed g image l) same owed
+    subst (IsPostingOwed g image l) same owed

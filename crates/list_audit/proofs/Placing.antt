@@ -7,7 +7,7 @@ use Rattle.volume_meaning.proofs.Fronts.{front_holds, one_posting, rises, rises_
 use Rattle.volume_meaning.specs.Volumes.{Holds}
 use Rattle.log_audit.proofs.Deciding.{held_written}
 use Rattle.jump_block.proofs.Knowing.{front_below}
-use Rattle.list_audit.specs.Trails.{IsAllFront, IsPlaceOf}
+use Rattle.list_audit.specs.Trails.{IsAllFront, IsPlaceOfKey}
 
 -- a place that holds a posting is in the front
 pub in_the_front : {image : Image} {block k : ℕ} {p : PostingFields} → IsAllFront image block → k < 128
@@ -70,7 +70,7 @@ module _ {image : Image} {block key low high : ℕ} (b : IsBetween image block k
   }
 
   -- the two have come together
-  pub comes_together : high ≤ low → IsPlaceOf image block key low
+  pub comes_together : high ≤ low → IsPlaceOfKey image block key low
   comes_together past = record {
     most = omega (arith, b.order, b.most);
     lower = b.lower;

@@ -19,7 +19,7 @@ use Rattle.log_audit.specs.Findings.{IsMetAll}
 use Rattle.log_audit.proofs.Deciding.{held_written}
 use Rattle.list_audit.specs.Blocks.{PointsTo}
 use Rattle.list_audit.proofs.Closing.{leads_on, one_target}
-use Rattle.list_audit.specs.Trails.{HasTrail, IsAllFront, IsPlaceOf, LeadsOnTo, PlaceEnds, StepEnds}
+use Rattle.list_audit.specs.Trails.{HasTrail, IsAllFront, IsPlaceOfKey, LeadsOnTo, PlaceAnswers, StepAnswers}
 use Rattle.list_audit.specs.declared.steps.Step.{Step}
 use Rattle.list_audit.specs.declared.steps.Step.TheVariants.{Found, Missing, On}
 use Rattle.list_audit.proofs.Placing.{in_the_front}
@@ -50,11 +50,11 @@ pub stands_here : (g : Layout) (image : Image) (block place : ℕ) (p : PostingF
 stands_here g image block place p front few holds = (block + place, here block place refl few (in_the_front front few holds))
 
 -- it does not, so that it has no trail
-pub not_here : (g : Layout) (image : Image) (block place : ℕ) (p : PostingFields) → IsPlaceOf image block p.key place → place < 128
+pub not_here : (g : Layout) (image : Image) (block place : ℕ) (p : PostingFields) → IsPlaceOfKey image block p.key place → place < 128
     → (Holds image (block + place) (posting_record p) → ⊥) → HasTrail g image p block → ⊥
 not_here g image block place p at few none has = by block at none has.1
   where
-    by : (b : ℕ) → IsPlaceOf image b p.key place → (Holds image (b + place) (posting_record p) → ⊥)
+    by : (b : ℕ) → IsPlaceOfKey image b p.key place → (Holds image (b + place) (posting_record p) → ⊥)
         → Trail image (pool_at g) g.cells has.0 p b → ⊥
     by b at none (here c k is inside front) = ⊎_elim
         (λ (same : k ≡ place). none (subst (λ (n : ℕ). Holds image (c + n) (posting_record p)) same (front_holds front)))
@@ -84,7 +84,7 @@ greatest_is image block e q ends full = ⊎_elim
 
 -- a block of lower keys alone, with its greatest
 module _ (g : Layout) (image : Image) (l block : ℕ) (p q : PostingFields) (is : IsBlockOf g image l block)
-    (at : IsPlaceOf image block p.key 128) (holds : Holds image (block + 127) (posting_record q)) where
+    (at : IsPlaceOfKey image block p.key 128) (holds : Holds image (block + 127) (posting_record q)) where
   pub full_of : IsFull image block q × (q.key < p.key)
   full_of =
       let w = at.lower 127 (omega arith) in
@@ -176,7 +176,7 @@ module _ (g : Layout) (image : Image) (l block : ℕ) (p q : PostingFields) (is 
 
 -- what stands at the place of the posting's key says whether it has a trail
 pub by_place : (g : Layout) (image : Image) (l block place : ℕ) (p : PostingFields) (answer : Step) → IsAllFront image block
-    → IsPlaceOf image block p.key place → place < 128 → PlaceEnds image block place p answer → StepEnds g image l p block answer
+    → IsPlaceOfKey image block p.key place → place < 128 → PlaceAnswers image block place p answer → StepAnswers g image l p block answer
 by_place g image l block place p Found front at few ends = stands_here g image block place p front few ends
 by_place g image l block place p Missing front at few ends = not_here g image block place p at few ends
 by_place g image l block place p (On target) front at few ends = absurd ends

@@ -7,11 +7,11 @@ use Rattle.cell_types.specs.Layout.{Layout, all_lists, list_at}
 use Rattle.cell_types.specs.declared.record_cell.RecordCell.TheVariants.{Jump}
 use Rattle.volume_meaning.specs.Nodes.{IsBlockOf}
 use Rattle.log_audit.specs.Leads.{LeadsInto}
-use Rattle.list_audit.specs.Numbers.{number_of}
+use Rattle.list_audit.specs.Numbers.{block_number}
 use Rattle.list_audit.specs.declared.listed.ListBlock.{ListBlock}
 
 -- the block of list l is one of these
-pub record IsAmong (blocks : List ListBlock) (l block : ℕ) : Type 0 where
+pub record IsAmongBlocks (blocks : List ListBlock) (l block : ℕ) : Type 0 where
   pub place : ℕ
   pub one : ListBlock
   pub there : slice_get blocks place ≡ Some one
@@ -26,7 +26,7 @@ AreOnce blocks = (i j : ℕ) (b c : ListBlock) → slice_get blocks i ≡ Some b
 -- these are the blocks of all lists, each of a list once
 pub record AreListBlocks (g : Layout) (image : Image) (blocks : List ListBlock) : Type 0 where
   pub each : (i : ℕ) (b : ListBlock) → slice_get blocks i ≡ Some b → IsBlockOf g image b.list b.block
-  pub all : (l block : ℕ) → IsBlockOf g image l block → IsAmong blocks l block
+  pub all : (l block : ℕ) → IsBlockOf g image l block → IsAmongBlocks blocks l block
   pub once : AreOnce blocks
 
 -- the jump cell there leads to a block whose cells lie in the pool
@@ -35,23 +35,26 @@ PointsTo g image at target = LeadsInto g image (λ (t : ℕ). Jump t) 256 at tar
 
 -- these are the numbers of just these blocks, none of which is there twice
 pub record AreNumbered (blocks : List ListBlock) (numbers : BTreeSet ℕ) : Type 0 where
-  pub each : (i : ℕ) (b : ListBlock) → slice_get blocks i ≡ Some b → contains nat_cmp numbers (number_of b.list b.block) ≡ true
-  pub all : (l block : ℕ) → block < 2 ^ 32 → contains nat_cmp numbers (number_of l block) ≡ true → IsAmong blocks l block
+  pub each : (i : ℕ) (b : ListBlock) → slice_get blocks i ≡ Some b
+      → contains nat_cmp numbers (block_number b.list b.block) ≡ true
+  pub all : (l block : ℕ) → block < 2 ^ 32 → contains nat_cmp numbers (block_number l block) ≡ true
+      → IsAmongBlocks blocks l block
   pub once : AreOnce blocks
 
 -- new is old with this block of list l
-pub record Adds (l block : ℕ) (old new : List ListBlock) : Type 0 where
+pub record AddsBlock (l block : ℕ) (old new : List ListBlock) : Type 0 where
   pub keeps : (i : ℕ) (b : ListBlock) → slice_get old i ≡ Some b → slice_get new i ≡ Some b
-  pub has : IsAmong new l block
+  pub has : IsAmongBlocks new l block
   pub only : (i : ℕ) (b : ListBlock) → slice_get new i ≡ Some b → (slice_get old i ≡ Some b) ⊎ ((b.list ≡ l) × (b.block ≡ block))
 
 -- each block to which one of the pointer places of this one below some place leads is among these, of the same list
 abbrev pub LeadsAmong : Layout → Image → List ListBlock → ListBlock → ℕ → Type 0
 LeadsAmong g image blocks b below =
-    (pointer target : ℕ) → 128 ≤ pointer → pointer < below → PointsTo g image (b.block + pointer) target → IsAmong blocks b.list target
+    (pointer target : ℕ) → 128 ≤ pointer → pointer < below → PointsTo g image (b.block + pointer) target
+    → IsAmongBlocks blocks b.list target
 
 -- These are blocks of lists, the first one of each list is among them, and so is each to which the first n of them lead.
 pub record AreClosedBelow (g : Layout) (image : Image) (n : ℕ) (blocks : List ListBlock) : Type 0 where
   pub reached : (i : ℕ) (b : ListBlock) → slice_get blocks i ≡ Some b → IsBlockOf g image b.list b.block
-  pub firsts : (l : ℕ) → l < all_lists g → IsAmong blocks l (list_at g l)
+  pub firsts : (l : ℕ) → l < all_lists g → IsAmongBlocks blocks l (list_at g l)
   pub closed : (i : ℕ) (b : ListBlock) → i < n → slice_get blocks i ≡ Some b → LeadsAmong g image blocks b 248

@@ -10,7 +10,7 @@ use Rattle.volume_meaning.specs.Volumes.{Holds}
 use Rattle.list_audit.specs.Tables.{FitsRow, HasRow}
 
 -- the posting is one of a document's, in list l
-pub record IsOwed (g : Layout) (image : Image) (l : ℕ) (p : PostingFields) : Type 0 where
+pub record IsPostingOwed (g : Layout) (image : Image) (l : ℕ) (p : PostingFields) : Type 0 where
   pub list : l < all_lists g
   pub slot : ℕ
   pub id : List ℕ
@@ -24,11 +24,12 @@ pub record IsOwed (g : Layout) (image : Image) (l : ℕ) (p : PostingFields) : T
 -- these are the postings of the documents of the slots below n
 abbrev pub AreOwed : Layout → Image → ℕ → List (ℕ × List ℕ) → Type 0
 AreOwed g image n rows =
-    (l : ℕ) (p : PostingFields) → FitsRow l p → (HasRow rows l p ↔ ((o : IsOwed g image l p) × (o.slot < n)))
+    (l : ℕ) (p : PostingFields) → FitsRow l p → (HasRow rows l p ↔ ((o : IsPostingOwed g image l p) × (o.slot < n)))
 
 -- a posting at this place of a block of list l is one of a document's
 abbrev pub KeepsPostingRule : Layout → Image → ℕ → ℕ → ℕ → Type 0
-KeepsPostingRule g image l block place = (p : PostingFields) → Holds image (block + place) (posting_record p) → IsOwed g image l p
+KeepsPostingRule g image l block place = (p : PostingFields) → Holds image (block + place) (posting_record p)
+    → IsPostingOwed g image l p
 
 -- what rule 9 asks of a cell on account of this block
 abbrev pub BlockOwes : Layout → Image → ℕ → ℕ → ℕ → Type 0

@@ -19,7 +19,7 @@ abbrev pub IsAllFront : Image → ℕ → Type 0
 IsAllFront image block = (k : ℕ) → k < 128 → IsWritten image (block + k) → (p : PostingFields) × InFront image block k p
 
 -- Places of the front before this one hold lower keys, and those from it on hold none.
-pub record IsPlaceOf (image : Image) (block key place : ℕ) : Type 0 where
+pub record IsPlaceOfKey (image : Image) (block key place : ℕ) : Type 0 where
   pub most : place ≤ 128
   pub lower : (k : ℕ) → k < place → (p : PostingFields) × InFront image block k p × (p.key < key)
   pub upper : (k : ℕ) (p : PostingFields) → place ≤ k → k < 128 → InFront image block k p → key ≤ p.key
@@ -43,13 +43,13 @@ pub record LeadsOnTo (g : Layout) (image : Image) (l : ℕ) (p : PostingFields) 
   pub up : HasTrail g image p target → HasTrail g image p block
 
 -- what a step answers
-abbrev pub StepEnds : Layout → Image → ℕ → PostingFields → ℕ → Step → Type 0
-StepEnds g image l p block Found = HasTrail g image p block
-StepEnds g image l p block Missing = HasTrail g image p block → ⊥
-StepEnds g image l p block (On target) = LeadsOnTo g image l p block target
+abbrev pub StepAnswers : Layout → Image → ℕ → PostingFields → ℕ → Step → Type 0
+StepAnswers g image l p block Found = HasTrail g image p block
+StepAnswers g image l p block Missing = HasTrail g image p block → ⊥
+StepAnswers g image l p block (On target) = LeadsOnTo g image l p block target
 
 -- what a look at the place of a posting's key answers
-abbrev pub PlaceEnds : Image → ℕ → ℕ → PostingFields → Step → Type 0
-PlaceEnds image block place p Found = Holds image (block + place) (posting_record p)
-PlaceEnds image block place p Missing = Holds image (block + place) (posting_record p) → ⊥
-PlaceEnds image block place p (On target) = ⊥
+abbrev pub PlaceAnswers : Image → ℕ → ℕ → PostingFields → Step → Type 0
+PlaceAnswers image block place p Found = Holds image (block + place) (posting_record p)
+PlaceAnswers image block place p Missing = Holds image (block + place) (posting_record p) → ⊥
+PlaceAnswers image block place p (On target) = ⊥

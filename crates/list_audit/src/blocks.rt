@@ -2,7 +2,7 @@
 ghost use Rattle.std.specs.Prelude.{◌≡◌, ◌<◌, ◌+◌, IfOk, OnOk, Some, slice_get};
 ghost use Rattle.cell_types.specs.Image.{Image};
 ghost use Rattle.cell_types.specs.Layout.{all_lists};
-ghost use Rattle.log_audit.specs.Kept.{image_of};
+ghost use Rattle.log_audit.specs.Kept.{image_of_kept};
 ghost use Rattle.list_audit.specs.Blocks.{AreListBlocks, AreNumbered, AreClosedBelow};
 
 use crate::found::FoundBlocks;
@@ -28,7 +28,7 @@ pub fn blocks_of(
     kept: &KeptCells,
     geometry: &Geometry,
 ) -> Result<Vec<ListBlock>, NoMemory>
-    ensures { IfOk result (λ blocks. AreListBlocks geometry.now (image_of kept.now) blocks.items) }
+    ensures { IfOk result (λ blocks. AreListBlocks geometry.now (image_of_kept kept.now) blocks.items) }
 {
     let mut found = first_blocks(alloc, geometry)?;
     for turn in 0..u32::MAX {
@@ -72,9 +72,9 @@ fn add_targets(
     found: &mut FoundBlocks,
 ) -> Result<(), NoMemory>
     requires numbered { AreNumbered found.old.blocks.items found.old.numbers }
-    requires closed { AreClosedBelow geometry.now (image_of kept.now) turn found.old.blocks.items }
+    requires closed { AreClosedBelow geometry.now (image_of_kept kept.now) turn found.old.blocks.items }
     requires here { slice_get found.old.blocks.items turn ≡ Some from }
-    ensures closed { OnOk result (AreClosedBelow geometry.now (image_of kept.now) (turn + 1) found.new.blocks.items) }
+    ensures closed { OnOk result (AreClosedBelow geometry.now (image_of_kept kept.now) (turn + 1) found.new.blocks.items) }
     ensures numbered { OnOk result (AreNumbered found.new.blocks.items found.new.numbers) }
 {
     let _cells = geometry.cells();

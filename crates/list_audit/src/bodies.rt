@@ -3,7 +3,7 @@ ghost use Rattle.std.specs.Prelude.{◌≡◌, ◌≤◌, ◌+◌, ◌^◌, ℕ,
 ghost use Rattle.volume_meaning.specs.Documents.{stored_bytes};
 ghost use Rattle.volume_meaning.specs.Slots.{cells_for};
 ghost use Rattle.tamper_rules.specs.Rules.{Documents, HasDocument};
-ghost use Rattle.log_audit.specs.Kept.{image_of};
+ghost use Rattle.log_audit.specs.Kept.{image_of_kept};
 ghost use Rattle.log_audit.specs.Findings.{IsMetAll};
 ghost use Rattle.log_audit.specs.Stored.{IsStored};
 ghost use Rattle.list_audit.specs.Bodies.{AreStored, AreWordsOf, HoldsContent, IsStoredDocument};
@@ -22,9 +22,9 @@ pub(crate) fn words_of(
     geometry: &Geometry,
     slot: &StoredSlot,
 ) -> Result<Vec<Term>, NoMemory>
-    requires stored { IsStored geometry.now (image_of kept.now) slot.now }
-    requires documents { IsMetAll geometry.now (image_of kept.now) Documents }
-    ensures { IfOk result (λ terms. AreWordsOf geometry.now (image_of kept.now) slot.now.slot terms.items) }
+    requires stored { IsStored geometry.now (image_of_kept kept.now) slot.now }
+    requires documents { IsMetAll geometry.now (image_of_kept kept.now) Documents }
+    ensures { IfOk result (λ terms. AreWordsOf geometry.now (image_of_kept kept.now) slot.now.slot terms.items) }
 {
     let stored = stored_of(alloc, kept, slot.document_at(), slot.bytes)?;
     let terms = words(alloc, body_in(&stored), rule_of(geometry.version()))?;
@@ -42,9 +42,9 @@ fn body_in(stored: &[u8]) -> &[u8]
 
 /// The stored bytes of the document that so many bytes from this cell on spell.
 fn stored_of(alloc: Global, kept: &KeptCells, start: u32, bytes: u32) -> Result<Vec<u8>, NoMemory>
-    requires spells { HasDocument (image_of kept.now) start bytes }
+    requires spells { HasDocument (image_of_kept kept.now) start bytes }
     requires room { start + cells_for bytes ≤ 2 ^ 31 }
-    ensures { IfOk result (λ stored. AreStored (image_of kept.now) start bytes stored.items) }
+    ensures { IfOk result (λ stored. AreStored (image_of_kept kept.now) start bytes stored.items) }
 {
     let mut stored = Vec::new(alloc);
     for place in 0..document_cells(bytes) {
@@ -60,9 +60,9 @@ fn stored_of(alloc: Global, kept: &KeptCells, start: u32, bytes: u32) -> Result<
 
 /// What the content cell there holds, if one stands there.
 fn content_in(kept: &KeptCells, at: u32) -> Option<Content>
-    ensures some { IfSome result (λ held. HoldsContent (image_of kept.now) at (take held.length held.bytes)) }
+    ensures some { IfSome result (λ held. HoldsContent (image_of_kept kept.now) at (take held.length held.bytes)) }
     ensures most { IfSome result (λ held. held.length ≤ 15) }
-    ensures none { IfNone result ((bytes : List ℕ) → HoldsContent (image_of kept.now) at bytes → ⊥) }
+    ensures none { IfNone result ((bytes : List ℕ) → HoldsContent (image_of_kept kept.now) at bytes → ⊥) }
 {
     let Some(cell) = kept.at(at) else {
         return None;

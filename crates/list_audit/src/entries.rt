@@ -2,8 +2,8 @@
 ghost use Rattle.std.specs.Prelude.{◌<◌, ◌≤◌, ◌+◌, ◌↔◌, ◌^◌, IsTrue};
 ghost use Rattle.tamper_rules.specs.Rules.{Entries, HoldsInOrder};
 ghost use Rattle.volume_meaning.specs.Nodes.{IsBlockOf};
-ghost use Rattle.log_audit.specs.Kept.{image_of};
-ghost use Rattle.log_audit.specs.Findings.{Finds};
+ghost use Rattle.log_audit.specs.Kept.{image_of_kept};
+ghost use Rattle.log_audit.specs.Findings.{FindsBroken};
 ghost use Rattle.log_audit.specs.Least.{FindsPart};
 ghost use Rattle.list_audit.specs.Blocks.{AreListBlocks};
 ghost use Rattle.list_audit.specs.Entries.{KeepsEntryRule, BlockAsks};
@@ -22,8 +22,8 @@ pub fn first_broken_entry(
     geometry: &Geometry,
     blocks: &[ListBlock],
 ) -> Option<Evidence>
-    requires { AreListBlocks geometry.now (image_of kept.now) blocks.now }
-    ensures { Finds geometry.now (image_of kept.now) Entries result }
+    requires { AreListBlocks geometry.now (image_of_kept kept.now) blocks.now }
+    ensures { FindsBroken geometry.now (image_of_kept kept.now) Entries result }
 {
     let mut least = None;
     for block in blocks {
@@ -34,8 +34,8 @@ pub fn first_broken_entry(
 
 /// The first cell of a block at which it breaks rule 8.
 fn first_in_block(kept: &KeptCells, geometry: &Geometry, listed: &ListBlock) -> Option<Evidence>
-    requires { IsBlockOf geometry.now (image_of kept.now) listed.now.list listed.now.block }
-    ensures { FindsPart geometry.now (image_of kept.now) Entries (BlockAsks (image_of kept.now) listed.now.block)
+    requires { IsBlockOf geometry.now (image_of_kept kept.now) listed.now.list listed.now.block }
+    ensures { FindsPart geometry.now (image_of_kept kept.now) Entries (BlockAsks (image_of_kept kept.now) listed.now.block)
         result }
 {
     let _cells = geometry.cells();
@@ -60,7 +60,7 @@ fn first_in_block(kept: &KeptCells, geometry: &Geometry, listed: &ListBlock) -> 
 fn keeps_entry_rule(kept: &KeptCells, block: u32, place: u32) -> bool
     requires room { block + 256 ≤ 2 ^ 31 }
     requires place { place < 256 }
-    ensures { IsTrue result ↔ KeepsEntryRule (image_of kept.now) block place }
+    ensures { IsTrue result ↔ KeepsEntryRule (image_of_kept kept.now) block place }
 {
     if place >= BEHIND_POINTERS {
         return false;
@@ -75,7 +75,7 @@ fn keeps_entry_rule(kept: &KeptCells, block: u32, place: u32) -> bool
 fn is_in_order(kept: &KeptCells, block: u32, place: u32) -> bool
     requires room { block + 256 ≤ 2 ^ 31 }
     requires place { place < 128 }
-    ensures { IsTrue result ↔ HoldsInOrder (image_of kept.now) block place }
+    ensures { IsTrue result ↔ HoldsInOrder (image_of_kept kept.now) block place }
 {
     let Some(posting) = posting_at(kept, block + place) else {
         return false;

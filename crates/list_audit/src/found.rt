@@ -1,6 +1,6 @@
 //! Blocks that were found, each once.
 ghost use Rattle.std.specs.Prelude.{◌≡◌, OnOk, [], slice_get};
-ghost use Rattle.list_audit.specs.Blocks.{AreNumbered, Adds};
+ghost use Rattle.list_audit.specs.Blocks.{AreNumbered, AddsBlock};
 
 use crate::listed::ListBlock;
 use cell_types::NoMemory;
@@ -39,7 +39,7 @@ impl FoundBlocks {
     /// Adds a block, unless it was found before.
     pub(crate) fn add(&mut self, found: ListBlock) -> Result<(), NoMemory>
         requires { AreNumbered self.old.blocks.items self.old.numbers }
-        ensures adds { OnOk result (Adds found.list found.block self.old.blocks.items self.new.blocks.items) }
+        ensures adds { OnOk result (AddsBlock found.list found.block self.old.blocks.items self.new.blocks.items) }
         ensures numbered { OnOk result (AreNumbered self.new.blocks.items self.new.numbers) }
     {
         let Ok(is_new) = self.numbers.insert(found.number()) else {

@@ -1,6 +1,6 @@
 //! A block of a list.
 ghost use Rattle.std.specs.Prelude.{◌≡◌};
-ghost use Rattle.list_audit.specs.Numbers.{number_of};
+ghost use Rattle.list_audit.specs.Numbers.{block_number};
 
 /// How far the numbers of the blocks of a list lie from those of the next.
 pub(crate) const LIST_STEP: u64 = 4_294_967_296;
@@ -17,7 +17,7 @@ pub struct ListBlock {
 impl ListBlock {
     /// A number that no other block and list have.
     pub(crate) fn number(&self) -> u64
-        ensures { result ≡ number_of self.now.list self.now.block }
+        ensures { result ≡ block_number self.now.list self.now.block }
     {
         u64::from(self.list) * LIST_STEP + u64::from(self.block)
     }

@@ -2,7 +2,7 @@
 ghost use Rattle.std.specs.Prelude.{IfOk, IfNone, IfSome};
 ghost use Rattle.volume_meaning.specs.Slots.{IsStampOf};
 ghost use Rattle.tamper_rules.specs.Rules.{Documents};
-ghost use Rattle.log_audit.specs.Kept.{image_of};
+ghost use Rattle.log_audit.specs.Kept.{image_of_kept};
 ghost use Rattle.log_audit.specs.Findings.{IsMetAll};
 ghost use Rattle.log_audit.specs.Stored.{IsStored};
 ghost use Rattle.list_audit.specs.Bodies.{AreRowsOf, HasNoRows};
@@ -21,11 +21,11 @@ pub(crate) fn postings_of(
     geometry: &Geometry,
     slot: &StoredSlot,
 ) -> Result<Option<Vec<ListedPosting>>, NoMemory>
-    requires stored { IsStored geometry.now (image_of kept.now) slot.now }
-    requires documents { IsMetAll geometry.now (image_of kept.now) Documents }
+    requires stored { IsStored geometry.now (image_of_kept kept.now) slot.now }
+    requires documents { IsMetAll geometry.now (image_of_kept kept.now) Documents }
     ensures some { IfOk result (λ found. IfSome found (λ rows.
-        AreRowsOf geometry.now (image_of kept.now) slot.now.slot rows.items)) }
-    ensures none { IfOk result (λ found. IfNone found (HasNoRows geometry.now (image_of kept.now) slot.now.slot)) }
+        AreRowsOf geometry.now (image_of_kept kept.now) slot.now.slot rows.items)) }
+    ensures none { IfOk result (λ found. IfNone found (HasNoRows geometry.now (image_of_kept kept.now) slot.now.slot)) }
 {
     let _few = geometry.slots();
     let terms = words_of(alloc, kept, geometry, slot)?;
@@ -45,8 +45,8 @@ pub(crate) fn postings_of(
 
 /// The stamp of a stored slot, on a volume of stamped documents.
 fn stamp_of(kept: &KeptCells, geometry: &Geometry, slot: &StoredSlot) -> Option<u32>
-    requires { IsStored geometry.now (image_of kept.now) slot.now }
-    ensures { IsStampOf geometry.now (image_of kept.now) slot.now.slot result }
+    requires { IsStored geometry.now (image_of_kept kept.now) slot.now }
+    ensures { IsStampOf geometry.now (image_of_kept kept.now) slot.now.slot result }
 {
     let _few = geometry.slots();
     if geometry.version() != STAMPED_VERSION {

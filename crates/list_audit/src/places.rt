@@ -1,7 +1,7 @@
 //! Places of keys in a block.
 ghost use Rattle.std.specs.Prelude.{◌≤◌, ◌+◌, ◌^◌};
-ghost use Rattle.log_audit.specs.Kept.{image_of};
-ghost use Rattle.list_audit.specs.Trails.{IsAllFront, IsPlaceOf};
+ghost use Rattle.log_audit.specs.Kept.{image_of_kept};
+ghost use Rattle.list_audit.specs.Trails.{IsAllFront, IsPlaceOfKey};
 
 use crate::held_posting::posting_at;
 use log_audit::KeptCells;
@@ -11,8 +11,8 @@ use volume_meaning::ENTRY_PLACES;
 /// entries stand without a gap and by rising keys.
 pub(crate) fn place_of(kept: &KeptCells, block: u32, key: u32) -> u32
     requires room { block + 256 ≤ 2 ^ 31 }
-    requires front { IsAllFront (image_of kept.now) block }
-    ensures { IsPlaceOf (image_of kept.now) block key result }
+    requires front { IsAllFront (image_of_kept kept.now) block }
+    ensures { IsPlaceOfKey (image_of_kept kept.now) block key result }
 {
     let mut low = 0;
     let mut high = u32::from(ENTRY_PLACES);

@@ -3,8 +3,8 @@ ghost use Rattle.std.specs.Prelude.{◌≡◌, IfOk};
 ghost use Rattle.volume_meaning.specs.Nodes.{IsBlockOf};
 ghost use Rattle.volume_meaning.specs.Volumes.{IsVolume};
 ghost use Rattle.tamper_rules.specs.Rules.{Documents, Postings};
-ghost use Rattle.log_audit.specs.Kept.{image_of};
-ghost use Rattle.log_audit.specs.Findings.{Finds, IsMetAll};
+ghost use Rattle.log_audit.specs.Kept.{image_of_kept};
+ghost use Rattle.log_audit.specs.Findings.{FindsBroken, IsMetAll};
 ghost use Rattle.log_audit.specs.Least.{FindsPart};
 ghost use Rattle.log_audit.specs.Logs.{IsLog};
 ghost use Rattle.list_audit.specs.Blocks.{AreListBlocks};
@@ -36,11 +36,11 @@ pub fn first_broken_posting<M: Meter>(
     blocks: &[ListBlock],
     meter: &mut M,
 ) -> Result<Option<Evidence>, NoMemory>
-    requires volume { IsVolume geometry.now.cells (image_of kept.now) geometry.now }
-    requires log { IsLog geometry.now (image_of kept.now) log.now }
-    requires documents { IsMetAll geometry.now (image_of kept.now) Documents }
-    requires blocks { AreListBlocks geometry.now (image_of kept.now) blocks.now }
-    ensures { IfOk result (λ found. Finds geometry.now (image_of kept.now) Postings found) }
+    requires volume { IsVolume geometry.now.cells (image_of_kept kept.now) geometry.now }
+    requires log { IsLog geometry.now (image_of_kept kept.now) log.now }
+    requires documents { IsMetAll geometry.now (image_of_kept kept.now) Documents }
+    requires blocks { AreListBlocks geometry.now (image_of_kept kept.now) blocks.now }
+    ensures { IfOk result (λ found. FindsBroken geometry.now (image_of_kept kept.now) Postings found) }
 {
     let table = table_of(alloc, kept, geometry, log, meter)?;
     Ok(first_fake(kept, geometry, log, blocks, &table))
@@ -54,12 +54,12 @@ fn first_fake(
     blocks: &[ListBlock],
     table: &PostingTable,
 ) -> Option<Evidence>
-    requires volume { IsVolume geometry.now.cells (image_of kept.now) geometry.now }
-    requires log { IsLog geometry.now (image_of kept.now) _log.now }
-    requires blocks { AreListBlocks geometry.now (image_of kept.now) blocks.now }
-    requires owed { AreOwed geometry.now (image_of kept.now) geometry.now.slots table.now.rows.items }
+    requires volume { IsVolume geometry.now.cells (image_of_kept kept.now) geometry.now }
+    requires log { IsLog geometry.now (image_of_kept kept.now) _log.now }
+    requires blocks { AreListBlocks geometry.now (image_of_kept kept.now) blocks.now }
+    requires owed { AreOwed geometry.now (image_of_kept kept.now) geometry.now.slots table.now.rows.items }
     requires order { AreOrderedRows table.now.rows.items }
-    ensures { Finds geometry.now (image_of kept.now) Postings result }
+    ensures { FindsBroken geometry.now (image_of_kept kept.now) Postings result }
 {
     let mut least = None;
     for block in blocks {
@@ -75,11 +75,11 @@ fn first_fake_in(
     listed: &ListBlock,
     table: &PostingTable,
 ) -> Option<Evidence>
-    requires block { IsBlockOf geometry.now (image_of kept.now) listed.now.list listed.now.block }
-    requires owed { AreOwed geometry.now (image_of kept.now) geometry.now.slots table.now.rows.items }
+    requires block { IsBlockOf geometry.now (image_of_kept kept.now) listed.now.list listed.now.block }
+    requires owed { AreOwed geometry.now (image_of_kept kept.now) geometry.now.slots table.now.rows.items }
     requires order { AreOrderedRows table.now.rows.items }
-    ensures { FindsPart geometry.now (image_of kept.now) Postings
-        (BlockOwes geometry.now (image_of kept.now) listed.now.list listed.now.block) result }
+    ensures { FindsPart geometry.now (image_of_kept kept.now) Postings
+        (BlockOwes geometry.now (image_of_kept kept.now) listed.now.list listed.now.block) result }
 {
     let _cells = geometry.cells();
     let block = listed.block;

@@ -33,8 +33,8 @@ ghost use Rattle.cell_types.specs.Layout.{all_lists};
 ghost use Rattle.volume_meaning.specs.Postings as paths;
 ghost use Rattle.volume_meaning.specs.Volumes.{IsVolume};
 ghost use Rattle.tamper_rules.specs.Rules.{Documents, Entries, Pointers, Trails};
-ghost use Rattle.log_audit.specs.Kept.{image_of};
-ghost use Rattle.log_audit.specs.Findings.{AreMetBelow, Finds, IsMetAll};
+ghost use Rattle.log_audit.specs.Kept.{image_of_kept};
+ghost use Rattle.log_audit.specs.Findings.{AreMetBelow, FindsBroken, IsMetAll};
 ghost use Rattle.log_audit.specs.Logs.{IsLog};
 ghost use Rattle.log_audit.specs.Stored.{IsStored};
 ghost use Rattle.list_audit.specs.Keeping.{HaveTrails, KeepsTrailRule};
@@ -62,10 +62,10 @@ pub fn first_broken_trail<M: Meter>(
     log: &Log,
     meter: &mut M,
 ) -> Result<Option<Evidence>, NoMemory>
-    requires volume { IsVolume geometry.now.cells (image_of kept.now) geometry.now }
-    requires log { IsLog geometry.now (image_of kept.now) log.now }
-    requires met { AreMetBelow geometry.now (image_of kept.now) 13 }
-    ensures { IfOk result (λ found. Finds geometry.now (image_of kept.now) Trails found) }
+    requires volume { IsVolume geometry.now.cells (image_of_kept kept.now) geometry.now }
+    requires log { IsLog geometry.now (image_of_kept kept.now) log.now }
+    requires met { AreMetBelow geometry.now (image_of_kept kept.now) 13 }
+    ensures { IfOk result (λ found. FindsBroken geometry.now (image_of_kept kept.now) Trails found) }
 {
     let slots = log.slots.len() as u64;
     let checks = slots.saturating_mul(2);
@@ -99,11 +99,11 @@ fn keeps_trail_rule(
     geometry: &Geometry,
     slot: &StoredSlot,
 ) -> Result<bool, NoMemory>
-    requires stored { IsStored geometry.now (image_of kept.now) slot.now }
-    requires documents { IsMetAll geometry.now (image_of kept.now) Documents }
-    requires entries { IsMetAll geometry.now (image_of kept.now) Entries }
-    requires pointers { IsMetAll geometry.now (image_of kept.now) Pointers }
-    ensures { IfOk result (λ keeps. IsTrue keeps ↔ KeepsTrailRule geometry.now (image_of kept.now) slot.now.slot) }
+    requires stored { IsStored geometry.now (image_of_kept kept.now) slot.now }
+    requires documents { IsMetAll geometry.now (image_of_kept kept.now) Documents }
+    requires entries { IsMetAll geometry.now (image_of_kept kept.now) Entries }
+    requires pointers { IsMetAll geometry.now (image_of_kept kept.now) Pointers }
+    ensures { IfOk result (λ keeps. IsTrue keeps ↔ KeepsTrailRule geometry.now (image_of_kept kept.now) slot.now.slot) }
 {
     let found = postings_of(alloc, kept, geometry, slot)?;
     let Some(rows) = found else {
@@ -116,9 +116,9 @@ fn keeps_trail_rule(
 fn have_trails(kept: &KeptCells, geometry: &Geometry, rows: &[ListedPosting]) -> bool
     requires lists { (i : ℕ) (row : paths.ListedPosting) → slice_get rows.now i ≡ Some row
         → row.list < all_lists geometry.now }
-    requires entries { IsMetAll geometry.now (image_of kept.now) Entries }
-    requires pointers { IsMetAll geometry.now (image_of kept.now) Pointers }
-    ensures { IsTrue result ↔ HaveTrails geometry.now (image_of kept.now) rows.now }
+    requires entries { IsMetAll geometry.now (image_of_kept kept.now) Entries }
+    requires pointers { IsMetAll geometry.now (image_of_kept kept.now) Pointers }
+    ensures { IsTrue result ↔ HaveTrails geometry.now (image_of_kept kept.now) rows.now }
 {
     for row in rows {
         if !has_trail(kept, geometry, row.list(), &posting_in(row)) {

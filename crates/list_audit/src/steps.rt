@@ -2,9 +2,9 @@
 ghost use Rattle.std.specs.Prelude.{◌≡◌, ◌<◌, ◌≤◌, ◌+◌, ◌^◌};
 ghost use Rattle.tamper_rules.specs.Rules.{Entries, Pointers};
 ghost use Rattle.volume_meaning.specs.Nodes.{IsBlockOf};
-ghost use Rattle.log_audit.specs.Kept.{image_of};
+ghost use Rattle.log_audit.specs.Kept.{image_of_kept};
 ghost use Rattle.log_audit.specs.Findings.{IsMetAll};
-ghost use Rattle.list_audit.specs.Trails.{IsPlaceOf, PlaceEnds, StepEnds};
+ghost use Rattle.list_audit.specs.Trails.{IsPlaceOfKey, PlaceAnswers, StepAnswers};
 
 use crate::held_posting::{HeldPosting, posting_at};
 use crate::listed::ListBlock;
@@ -33,10 +33,10 @@ pub(crate) fn step_from(
     listed: &ListBlock,
     posting: &HeldPosting,
 ) -> Step
-    requires block { IsBlockOf geometry.now (image_of kept.now) listed.now.list listed.now.block }
-    requires entries { IsMetAll geometry.now (image_of kept.now) Entries }
-    requires pointers { IsMetAll geometry.now (image_of kept.now) Pointers }
-    ensures { StepEnds geometry.now (image_of kept.now) listed.now.list posting.now listed.now.block result }
+    requires block { IsBlockOf geometry.now (image_of_kept kept.now) listed.now.list listed.now.block }
+    requires entries { IsMetAll geometry.now (image_of_kept kept.now) Entries }
+    requires pointers { IsMetAll geometry.now (image_of_kept kept.now) Pointers }
+    ensures { StepAnswers geometry.now (image_of_kept kept.now) listed.now.list posting.now listed.now.block result }
 {
     let _cells = geometry.cells();
     let block = listed.block;
@@ -49,11 +49,11 @@ pub(crate) fn step_from(
 
 /// Where the trail of a posting leads from a block of lower keys alone, which is full of them.
 fn step_on(kept: &KeptCells, geometry: &Geometry, listed: &ListBlock, posting: &HeldPosting) -> Step
-    requires block { IsBlockOf geometry.now (image_of kept.now) listed.now.list listed.now.block }
+    requires block { IsBlockOf geometry.now (image_of_kept kept.now) listed.now.list listed.now.block }
     requires room { listed.now.block + 256 ≤ 2 ^ 31 }
-    requires full { IsPlaceOf (image_of kept.now) listed.now.block posting.now.key 128 }
-    requires pointers { IsMetAll geometry.now (image_of kept.now) Pointers }
-    ensures { StepEnds geometry.now (image_of kept.now) listed.now.list posting.now listed.now.block result }
+    requires full { IsPlaceOfKey (image_of_kept kept.now) listed.now.block posting.now.key 128 }
+    requires pointers { IsMetAll geometry.now (image_of_kept kept.now) Pointers }
+    ensures { StepAnswers geometry.now (image_of_kept kept.now) listed.now.list posting.now listed.now.block result }
 {
     let block = listed.block;
     let Some(greatest) = posting_at(kept, block + 127) else {
@@ -71,7 +71,7 @@ fn step_on(kept: &KeptCells, geometry: &Geometry, listed: &ListBlock, posting: &
 fn step_at(kept: &KeptCells, block: u32, place: u32, posting: &HeldPosting) -> Step
     requires room { block + 256 ≤ 2 ^ 31 }
     requires inside { place < 128 }
-    ensures { PlaceEnds (image_of kept.now) block place posting.now result }
+    ensures { PlaceAnswers (image_of_kept kept.now) block place posting.now result }
 {
     let Some(held) = posting_at(kept, block + place) else {
         return Step::Missing;

@@ -1,10 +1,10 @@
 //! The postings that documents are to have.
 ghost use Rattle.std.specs.Prelude.{◌≡◌, ◌↔◌, [], IfOk, IsTrue, OnOk};
 ghost use Rattle.tamper_rules.specs.Rules.{Documents};
-ghost use Rattle.log_audit.specs.Kept.{image_of};
+ghost use Rattle.log_audit.specs.Kept.{image_of_kept};
 ghost use Rattle.log_audit.specs.Findings.{IsMetAll};
 ghost use Rattle.log_audit.specs.Logs.{IsLog};
-ghost use Rattle.log_audit.specs.Stored.{HasCells};
+ghost use Rattle.log_audit.specs.Stored.{FitsInSlot};
 ghost use Rattle.list_audit.specs.Owing.{AreOwed};
 ghost use Rattle.list_audit.specs.Tables.{AddsRow, AddsRows, AreOrderedRows, AreSameRows, HasRow, number_of};
 
@@ -37,7 +37,7 @@ impl PostingTable {
         geometry: &Geometry,
         log: &Log,
     ) -> Result<PostingTable, NoMemory>
-        requires { IsLog geometry.now (image_of kept.now) log.now }
+        requires { IsLog geometry.now (image_of_kept kept.now) log.now }
         ensures { IfOk result (λ table. table.rows.items ≡ []) }
     {
         let room = journaled_postings(kept, geometry, log);
@@ -97,10 +97,10 @@ pub(crate) fn table_of<M: Meter>(
     log: &Log,
     meter: &mut M,
 ) -> Result<PostingTable, NoMemory>
-    requires log { IsLog geometry.now (image_of kept.now) log.now }
-    requires documents { IsMetAll geometry.now (image_of kept.now) Documents }
+    requires log { IsLog geometry.now (image_of_kept kept.now) log.now }
+    requires documents { IsMetAll geometry.now (image_of_kept kept.now) Documents }
     ensures owed { IfOk result (λ table.
-        AreOwed geometry.now (image_of kept.now) geometry.now.slots table.rows.items) }
+        AreOwed geometry.now (image_of_kept kept.now) geometry.now.slots table.rows.items) }
     ensures order { IfOk result (λ table. AreOrderedRows table.rows.items) }
 {
     let mut table = PostingTable::with_room(alloc, kept, geometry, log)?;
@@ -122,7 +122,7 @@ pub(crate) fn table_of<M: Meter>(
 
 /// How many postings the journals of stored slots hold.
 fn journaled_postings(kept: &KeptCells, geometry: &Geometry, log: &Log) -> usize
-    requires { IsLog geometry.now (image_of kept.now) log.now }
+    requires { IsLog geometry.now (image_of_kept kept.now) log.now }
 {
     let mut count: usize = 0;
     for slot in 0..geometry.slots() {
@@ -136,7 +136,7 @@ fn journaled_postings(kept: &KeptCells, geometry: &Geometry, log: &Log) -> usize
 
 /// How many the journal of one holds.
 fn postings_journaled_by(kept: &KeptCells, stored: &StoredSlot) -> usize
-    requires { HasCells stored.now }
+    requires { FitsInSlot stored.now }
 {
     let from = stored.journal_at();
     let mut count: usize = 0;

@@ -1,6 +1,6 @@
 //! Where a pointer place leads.
 ghost use Rattle.cell_types.specs.declared.record_cell.RecordCell.TheVariants.{Jump};
-ghost use Rattle.log_audit.specs.Kept.{image_of};
+ghost use Rattle.log_audit.specs.Kept.{image_of_kept};
 ghost use Rattle.log_audit.specs.Leads.{LeadEnds};
 
 use cell_types::{Geometry, RecordCell};
@@ -9,7 +9,7 @@ use volume_meaning::BLOCK_CELLS;
 
 /// The block to which the jump cell there leads, if there is one whose cells lie in the pool.
 pub fn pointer_target(kept: &KeptCells, geometry: &Geometry, at: u32) -> Option<u32>
-    ensures { LeadEnds geometry.now (image_of kept.now) (λ t. Jump t) 256 at result }
+    ensures { LeadEnds geometry.now (image_of_kept kept.now) (λ t. Jump t) 256 at result }
 {
     let Some(held) = record_at(kept, at) else {
         return None;

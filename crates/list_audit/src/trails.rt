@@ -2,7 +2,7 @@
 ghost use Rattle.std.specs.Prelude.{◌<◌, ◌↔◌, IsTrue};
 ghost use Rattle.cell_types.specs.Layout.{all_lists, list_at};
 ghost use Rattle.tamper_rules.specs.Rules.{Entries, Pointers};
-ghost use Rattle.log_audit.specs.Kept.{image_of};
+ghost use Rattle.log_audit.specs.Kept.{image_of_kept};
 ghost use Rattle.log_audit.specs.Findings.{IsMetAll};
 ghost use Rattle.list_audit.specs.Trails.{HasTrail};
 
@@ -19,9 +19,9 @@ const MOST_BLOCKS: u8 = 9;
 /// Whether a posting has a trail from the first block of a list, where rules 8 and 10 are kept.
 pub fn has_trail(kept: &KeptCells, geometry: &Geometry, list: u16, posting: &HeldPosting) -> bool
     requires list { list < all_lists geometry.now }
-    requires entries { IsMetAll geometry.now (image_of kept.now) Entries }
-    requires pointers { IsMetAll geometry.now (image_of kept.now) Pointers }
-    ensures { IsTrue result ↔ HasTrail geometry.now (image_of kept.now) posting.now (list_at geometry.now list) }
+    requires entries { IsMetAll geometry.now (image_of_kept kept.now) Entries }
+    requires pointers { IsMetAll geometry.now (image_of_kept kept.now) Pointers }
+    ensures { IsTrue result ↔ HasTrail geometry.now (image_of_kept kept.now) posting.now (list_at geometry.now list) }
 {
     // Known of a key once it is asked for: it is below 16^8.
     let _key = posting.key();

@@ -6,7 +6,7 @@ use Rattle.cell_types.specs.Layout.{Layout}
 use Rattle.cell_types.specs.declared.refusal.Evidence.{Evidence}
 use Rattle.volume_meaning.specs.Volumes.{IsWritten}
 use Rattle.tamper_rules.specs.Rules.{Rule, IsMet, IsPlace, number_of}
-use Rattle.log_audit.specs.Findings.{IsMetAll, IsLeast}
+use Rattle.log_audit.specs.Findings.{IsMetAll, IsLeastBroken}
 
 below_or_at : (k n : ℕ) → k < n + 1 → (k < n) ⊎ (k ≡ n)
 below_or_at k n h = grind arith
@@ -41,7 +41,7 @@ pub first_rising : (g : Layout) {image : Image} (rule : Rule) {at : ℕ → ℕ}
     → ((a b : ℕ) → at a < at b → a < b)
     → AreFine image at Fine n → (Fine n → ⊥)
     → e.rule ≡ number_of rule → IsPlace g rule e.cell → image e.cell ≡ Some e.found → e.cell ≡ at n
-    → IsLeast g image rule e
+    → IsLeastBroken g image rule e
 first_rising g {image} rule {at} {Fine} {n} {slots} e met unmet rises fine broken number place stands same = record {
   number = number;
   place = place;

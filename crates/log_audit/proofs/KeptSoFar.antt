@@ -9,7 +9,7 @@ use Rattle.worm_device.specs.declared.device.Failed.{Failed}
 use Rattle.worm_device.proofs.Counting.{still_first, still_second}
 use Rattle.worm_device.proofs.Elapsing.{called_self, called_then}
 use Rattle.worm_device.proofs.Images.{unchanged_then}
-use Rattle.log_audit.specs.Kept.{image_of, count_of, IsNext, IsKept}
+use Rattle.log_audit.specs.Kept.{image_of_kept, count_of, IsNext, IsKeptBetween}
 use Rattle.log_audit.specs.Viewing.{shown_within}
 use Rattle.log_audit.specs.declared.kept.KeptCells.{KeptCells}
 use Rattle.log_audit.proofs.OneMore.{below_or_at}
@@ -19,15 +19,15 @@ pub record KeptSoFar (old now : DeviceState) (at : ℕ) (kept : KeptCells) : Typ
   pub count : count_of kept ≡ at
   pub faults : now.faults ≡ old.faults
   pub reads : now.reads ≤ old.reads + at
-  pub above : IsTrue old.tells → (c : ℕ) (v : List ℕ) → c < at → old.image c ≡ Some v → image_of kept c ≡ Some v
-  pub below : IsTrue old.tells → Extends (image_of kept) now.image
+  pub above : IsTrue old.tells → (c : ℕ) (v : List ℕ) → c < at → old.image c ≡ Some v → image_of_kept kept c ≡ Some v
+  pub below : IsTrue old.tells → Extends (image_of_kept kept) now.image
   pub only : IsStill old.foreign_writes now.foreign_writes → IsUnchanged old.image now.image
 
 clash : {value : List ℕ} (found : Option (List ℕ)) → found ≡ None → found ≡ Some value → ⊥
 clash {value} found none some = let e : None ≡ Some value = sym none ∙ some in cc
 
 -- nothing was read
-pub none_yet : (s : DeviceState) (kept : KeptCells) → count_of kept ≡ 0 → ((cell : ℕ) → image_of kept cell ≡ None)
+pub none_yet : (s : DeviceState) (kept : KeptCells) → count_of kept ≡ 0 → ((cell : ℕ) → image_of_kept kept cell ≡ None)
     → KeptSoFar s s 0 kept
 none_yet s kept count blank = record {
   called = called_self s;
@@ -35,7 +35,7 @@ none_yet s kept count blank = record {
   faults = refl;
   reads = omega arith;
   above = λ tells c v less stands. absurd (omega arith);
-  below = λ tells. record { keeps = λ c v stands. absurd (clash (image_of kept c) (blank c) stands) };
+  below = λ tells. record { keeps = λ c v stands. absurd (clash (image_of_kept kept c) (blank c) stands) };
   only = λ still cell. refl;
 }
 
@@ -49,10 +49,10 @@ pub one_more : {old mid new : DeviceState} {at : ℕ} {kept after : KeptCells} {
     → Reads at mid new (Ok found) → IsNext found kept after → KeptSoFar old new (at + 1) after
 one_more {old} {mid} {new} {at} {kept} {after} {found} so_far read next =
     let told : IsTrue old.tells → IsTrue mid.tells = λ tells. subst IsTrue (sym so_far.called.tells) tells in
-    let before : (c : ℕ) → c < at → image_of after c ≡ image_of kept c = λ c less.
+    let before : (c : ℕ) → c < at → image_of_kept after c ≡ image_of_kept kept c = λ c less.
     next.others c (λ same. omega (arith, less, same, so_far.count)) in
-    let here : (c : ℕ) → c ≡ at → image_of after c ≡ found = λ c same.
-    ap (image_of after) (same ∙ sym so_far.count) ∙ next.here in
+    let here : (c : ℕ) → c ≡ at → image_of_kept after c ≡ found = λ c same.
+    ap (image_of_kept after) (same ∙ sym so_far.count) ∙ next.here in
     record {
       called = called_then so_far.called read.called;
       count = next.count ∙ ap (λ (n : ℕ). n + 1) so_far.count;
@@ -75,9 +75,9 @@ one_more {old} {mid} {new} {at} {kept} {after} {found} so_far read next =
 
 -- all were read
 pub all_kept : {old new : DeviceState} {at : ℕ} (kept : KeptCells) → IsDevice old → KeptSoFar old new at kept → at ≡ old.cells
-    → IsTrue old.tells → IsKept old new kept
+    → IsTrue old.tells → IsKeptBetween old new kept
 all_kept {old} {new} {at} kept device so_far all tells =
-    let up : Extends old.image (image_of kept) = record {
+    let up : Extends old.image (image_of_kept kept) = record {
       keeps = λ c v stands.
           so_far.above tells c v (omega (arith, all, (device.inside c v stands).0)) stands;
     } in
@@ -85,15 +85,15 @@ all_kept {old} {new} {at} kept device so_far all tells =
     record {
       above = up;
       below = down;
-      quiet = λ still. λ i c. both c (image_of kept c) refl up down (so_far.only still) i;
-      before = λ still. λ i c. (both c (image_of kept c) refl up down (so_far.only still) ∙ so_far.only still c) i;
+      quiet = λ still. λ i c. both c (image_of_kept kept c) refl up down (so_far.only still) i;
+      before = λ still. λ i c. (both c (image_of_kept kept c) refl up down (so_far.only still) ∙ so_far.only still c) i;
     }
   where
-    both : (c : ℕ) (found : Option (List ℕ)) → image_of kept c ≡ found → Extends old.image (image_of kept) → Extends (image_of kept) new.image
-        → IsUnchanged old.image new.image → image_of kept c ≡ new.image c
+    both : (c : ℕ) (found : Option (List ℕ)) → image_of_kept kept c ≡ found → Extends old.image (image_of_kept kept) → Extends (image_of_kept kept) new.image
+        → IsUnchanged old.image new.image → image_of_kept kept c ≡ new.image c
     both c (Some v) is up down same = is ∙ sym (down.keeps c v is)
     both c None is up down same = is ∙ none (new.image c) refl
       where
         none : (there : Option (List ℕ)) → new.image c ≡ there → None ≡ new.image c
         none None at = sym at
-        none (Some v) at = absurd (clash (image_of kept c) is (up.keeps c v (sym (same c) ∙ at)))
+        none (Some v) at = absurd (clash (image_of_kept kept c) is (up.keeps c v (sym (same c) ∙ at)))

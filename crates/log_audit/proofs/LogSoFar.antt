@@ -11,14 +11,14 @@ use Rattle.tamper_rules.proofs.Settled.{ended_reserves}
 use Rattle.log_audit.proofs.OneMore.{get_before, get_last, length_pushed, below_or_at}
 use Rattle.log_audit.proofs.Beginning.{ended_cells}
 use Rattle.log_audit.specs.Findings.{AreMetBelow}
-use Rattle.log_audit.specs.Logs.{IsEnded, HasRoom, end_of, IsLog}
+use Rattle.log_audit.specs.Logs.{IsEnded, FitsOnDevice, end_of, IsLog}
 use Rattle.log_audit.specs.declared.ended.EndedSlot.{EndedSlot}
 use Rattle.log_audit.specs.declared.log.Log.{Log}
 
 pub record LogSoFar (g : Layout) (image : Image) (n : ℕ) (slots : List EndedSlot) (edge : ℕ) : Type 0 where
   pub count : length slots ≡ n
   pub most : n ≤ g.slots
-  pub each : (m : ℕ) (slot : EndedSlot) → slice_get slots m ≡ Some slot → IsEnded g image m slot × HasRoom slot
+  pub each : (m : ℕ) (slot : EndedSlot) → slice_get slots m ≡ Some slot → IsEnded g image m slot × FitsOnDevice slot
   pub ends : EndsBelow g image n edge
 
 pub none_yet : (g : Layout) (image : Image) (slots : List EndedSlot) (edge : ℕ) → slots ≡ [] → edge ≡ pool_at g → LogSoFar g image 0 slots edge
@@ -30,7 +30,7 @@ none_yet g image slots edge none at = record {
 }
 
 pub one_more : {g : Layout} {image : Image} {n : ℕ} {slots after : List EndedSlot} {edge end : ℕ} (slot : EndedSlot) → LogSoFar g image n slots edge
-    → n < g.slots → IsEnded g image n slot → HasRoom slot → after ≡ slots ++ slot ∷ [] → end ≡ end_of slot
+    → n < g.slots → IsEnded g image n slot → FitsOnDevice slot → after ≡ slots ++ slot ∷ [] → end ≡ end_of slot
     → LogSoFar g image (n + 1) after end
 one_more {g} {image} {n} {slots} {after} {edge} {end} slot so_far less is room more at = record {
   count = ap length more ∙ length_pushed slots slot ∙ ap (λ (k : ℕ). k + 1) so_far.count;
@@ -40,7 +40,7 @@ one_more {g} {image} {n} {slots} {after} {edge} {end} slot so_far less is room m
       (λ (same : m ≡ n).
       let e : Some slot ≡ Some other = sym (get_last slots slot m (same ∙ sym so_far.count)) ∙ sym (ap (λ (l : List EndedSlot). slice_get l m) more) ∙ there in
       let eq : slot ≡ other = cc in
-      subst (λ (s : EndedSlot). IsEnded g image m s × HasRoom s) eq (subst (λ (k : ℕ). IsEnded g image k slot) (sym same) is, room))
+      subst (λ (s : EndedSlot). IsEnded g image m s × FitsOnDevice s) eq (subst (λ (k : ℕ). IsEnded g image k slot) (sym same) is, room))
       (below_or_at m n (let w : m < length after = slice_get_within after m other there in
       omega (arith, w, ap length more ∙ length_pushed slots slot, so_far.count)));
   ends = let r = ended_cells g image n slot is in inr (n, r.0, r.1, refl, r.2, at ∙ r.3);

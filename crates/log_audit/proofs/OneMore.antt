@@ -6,8 +6,8 @@ use Rattle.std.proofs.lemmas.Grind.{common_steps}
 use Rattle.std.proofs.lemmas.Option.{gets, slice_get_within}
 use Rattle.cell_types.specs.Bytes.{IsCell}
 use Rattle.log_audit.specs.AllRows.{all_rows}
-use Rattle.log_audit.specs.Cells.{shown_by, AreKept}
-use Rattle.log_audit.specs.Kept.{image_of, count_of, IsNext}
+use Rattle.log_audit.specs.Cells.{shown_by, AreCellsKept}
+use Rattle.log_audit.specs.Kept.{image_of_kept, count_of, IsNext}
 use Rattle.log_audit.specs.Viewing.{shown_within}
 use Rattle.log_audit.specs.declared.kept.KeptCells.{KeptCells}
 use Rattle.log_audit.specs.declared.written.TheConstants.{PAGE_CELLS}
@@ -43,7 +43,7 @@ shown_pushed (first ∷ rows) row number least =
     let rest = shown_pushed rows row number (λ k q stands. least (suc k) q stands) in
     grind (arith, nat_tests)
 
-module _ {count : ℕ} {rows : List WrittenCell} {starts : List ℕ} (kept : AreKept count rows starts) where
+module _ {count : ℕ} {rows : List WrittenCell} {starts : List ℕ} (kept : AreCellsKept count rows starts) where
   -- no kept cell has the number of the next
   pub next_is_free : shown_by rows count ≡ None
   next_is_free = by (shown_by rows count) refl
@@ -53,7 +53,7 @@ module _ {count : ℕ} {rows : List WrittenCell} {starts : List ℕ} (kept : Are
       by (Some value) is = absurd (omega (arith, (shown_within kept count value is).0))
 
   -- a page more
-  more_pages : count ≡ length starts * PAGE_CELLS → AreKept count rows (starts ++ length rows ∷ [])
+  more_pages : count ≡ length starts * PAGE_CELLS → AreCellsKept count rows (starts ++ length rows ∷ [])
   more_pages full = record {
     few = kept.few;
     most = kept.most;
@@ -75,14 +75,14 @@ module _ {count : ℕ} {rows : List WrittenCell} {starts : List ℕ} (kept : Are
 
   -- or none, where there was no memory
   pub kept_page : (done : Bool) {start : ℕ} {after : List ℕ} → count % PAGE_CELLS ≡ 0 → count / PAGE_CELLS ≡ length starts
-      → start ≡ length rows → after ≡ (if done then starts ++ start ∷ [] else starts) → AreKept count rows after
+      → start ≡ length rows → after ≡ (if done then starts ++ start ∷ [] else starts) → AreCellsKept count rows after
   kept_page true {start} {after} first page same more =
-      let all : AreKept count rows (starts ++ length rows ∷ []) = more_pages (omega (arith, first, page)) in
-      subst (AreKept count rows) (sym (more ∙ ap (λ (n : ℕ). starts ++ n ∷ []) same)) all
-  kept_page false first page same more = subst (AreKept count rows) (sym more) kept
+      let all : AreCellsKept count rows (starts ++ length rows ∷ []) = more_pages (omega (arith, first, page)) in
+      subst (AreCellsKept count rows) (sym (more ∙ ap (λ (n : ℕ). starts ++ n ∷ []) same)) all
+  kept_page false first page same more = subst (AreCellsKept count rows) (sym more) kept
 
   -- a blank cell more
-  pub kept_blank : count + 1 < 2 ^ 32 → AreKept (count + 1) rows starts
+  pub kept_blank : count + 1 < 2 ^ 32 → AreCellsKept (count + 1) rows starts
   kept_blank few = record {
     few = few;
     most = omega (arith, kept.most);
@@ -93,7 +93,7 @@ module _ {count : ℕ} {rows : List WrittenCell} {starts : List ℕ} (kept : Are
   }
 
   more_rows : (row : WrittenCell) → row.number ≡ count → IsCell row.cell → count + 1 < 2 ^ 32
-      → AreKept (count + 1) (rows ++ row ∷ []) starts
+      → AreCellsKept (count + 1) (rows ++ row ∷ []) starts
   more_rows row number cell few = record {
     few = few;
     most = omega (arith, kept.most, length_pushed rows row);
@@ -124,8 +124,8 @@ module _ {count : ℕ} {rows : List WrittenCell} {starts : List ℕ} (kept : Are
 
   -- a written cell more
   pub kept_more : (row : WrittenCell) {after : List WrittenCell} → row.number ≡ count → IsCell row.cell → count + 1 < 2 ^ 32
-      → after ≡ rows ++ row ∷ [] → AreKept (count + 1) after starts
-  kept_more row {after} number cell few more = subst (λ (l : List WrittenCell). AreKept (count + 1) l starts) (sym more) (more_rows row number cell few)
+      → after ≡ rows ++ row ∷ [] → AreCellsKept (count + 1) after starts
+  kept_more row {after} number cell few more = subst (λ (l : List WrittenCell). AreCellsKept (count + 1) l starts) (sym more) (more_rows row number cell few)
 
   -- what they show then
   pub shown_more : (row : WrittenCell) {after : List WrittenCell} (number : ℕ) → row.number ≡ count → after ≡ rows ++ row ∷ []
@@ -139,7 +139,7 @@ module _ {count : ℕ} {rows : List WrittenCell} {starts : List ℕ} (kept : Are
 pub next_blank : {found : Option (List ℕ)} {old new : KeptCells} → found ≡ None → count_of new ≡ count_of old + 1
     → all_rows new.rows ≡ all_rows old.rows → IsNext found old new
 next_blank {found} {old} {new} none count same =
-    let one : (cell : ℕ) → image_of new cell ≡ image_of old cell = λ cell. ap (λ (l : List WrittenCell). shown_by l cell) same in
+    let one : (cell : ℕ) → image_of_kept new cell ≡ image_of_kept old cell = λ cell. ap (λ (l : List WrittenCell). shown_by l cell) same in
     record {
       count = count;
       here = one (count_of old) ∙ next_is_free old.kept ∙ sym none;
@@ -149,12 +149,12 @@ next_blank {found} {old} {new} none count same =
 pub next_written : (row : WrittenCell) {found : Option (List ℕ)} {old new : KeptCells} → found ≡ Some row.cell → row.number ≡ count_of old
     → count_of new ≡ count_of old + 1 → all_rows new.rows ≡ all_rows old.rows ++ row ∷ [] → IsNext found old new
 next_written row {found} {old} {new} some number count more =
-    let one : (cell : ℕ) → image_of new cell ≡ (if cell == count_of old then Some row.cell else image_of old cell) =
+    let one : (cell : ℕ) → image_of_kept new cell ≡ (if cell == count_of old then Some row.cell else image_of_kept old cell) =
     λ cell. shown_more old.kept row cell number more in
     record {
       count = count;
-      here = one (count_of old) ∙ here (count_of old) (Some row.cell) (image_of old (count_of old)) ∙ sym some;
-      others = λ cell other. one cell ∙ there cell (count_of old) (Some row.cell) (image_of old cell) other;
+      here = one (count_of old) ∙ here (count_of old) (Some row.cell) (image_of_kept old (count_of old)) ∙ sym some;
+      others = λ cell other. one cell ∙ there cell (count_of old) (Some row.cell) (image_of_kept old cell) other;
     }
   where
     here : (n : ℕ) (a b : Option (List ℕ)) → (if n == n then a else b) ≡ a

@@ -7,7 +7,7 @@ use Rattle.cell_types.specs.Layout.{Layout}
 use Rattle.cell_types.specs.declared.refusal.Evidence.{Evidence}
 use Rattle.volume_meaning.specs.Volumes.{IsWritten}
 use Rattle.tamper_rules.specs.Rules.{Rule, IsMet, IsPlace, number_of}
-use Rattle.log_audit.specs.Findings.{Finds}
+use Rattle.log_audit.specs.Findings.{FindsBroken}
 use Rattle.log_audit.specs.Least.{IsLeastOf, FindsPart, lower_finding}
 use Rattle.log_audit.proofs.Families.{AreFine}
 
@@ -98,7 +98,7 @@ module _ (g : Layout) (image : Image) (rule : Rule) where
   -- what asks no more and no less than the rule finds for the rule
   pub finds_all : (Asked : ℕ → Type 0) (found : Option Evidence) → FindsPart g image rule Asked found
       → ((cell : ℕ) → Asked cell → IsMet g image rule cell) → ((cell : ℕ) → IsMet g image rule cell → Asked cell)
-      → Finds g image rule found
+      → FindsBroken g image rule found
   finds_all Asked None p to from = λ cell written. to cell (p cell written)
   finds_all Asked (Some e) p to from = record {
     number = p.number;

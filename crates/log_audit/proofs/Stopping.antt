@@ -6,16 +6,16 @@ use Rattle.cell_types.specs.declared.refusal.Evidence.{Evidence}
 use Rattle.cell_types.specs.declared.refusal.Refusal.{Refusal}
 use Rattle.cell_types.specs.declared.refusal.Refusal.TheVariants as refusals
 use Rattle.tamper_rules.specs.Rules.{Rule, number_of}
-use Rattle.log_audit.specs.Findings.{IsMetAll, Finds, AreMetBelow, IsFirst}
+use Rattle.log_audit.specs.Findings.{IsMetAll, FindsBroken, AreMetBelow, IsFirstBroken}
 use Rattle.log_audit.specs.Logs.{LogEnds, LogChecks}
 use Rattle.log_audit.specs.declared.log.Log.{Log}
 
-pub first_found : (g : Layout) (image : Image) (rule : Rule) (answer : Option Evidence) (e : Evidence) → AreMetBelow g image (number_of rule) → Finds g image rule answer
-    → answer ≡ Some e → IsFirst g image e
-first_found g image rule answer e lower finds is = record { rule = rule; least = subst (Finds g image rule) is finds; lower = lower }
+pub first_found : (g : Layout) (image : Image) (rule : Rule) (answer : Option Evidence) (e : Evidence) → AreMetBelow g image (number_of rule) → FindsBroken g image rule answer
+    → answer ≡ Some e → IsFirstBroken g image e
+first_found g image rule answer e lower finds is = record { rule = rule; least = subst (FindsBroken g image rule) is finds; lower = lower }
 
-pub found_none : (g : Layout) (image : Image) (rule : Rule) (found : Option Evidence) → Finds g image rule found → found ≡ None → IsMetAll g image rule
-found_none g image rule found finds is = subst (Finds g image rule) is finds
+pub found_none : (g : Layout) (image : Image) (rule : Rule) (found : Option Evidence) → FindsBroken g image rule found → found ≡ None → IsMetAll g image rule
+found_none g image rule found finds is = subst (FindsBroken g image rule) is finds
 
 pub log_checks : (g : Layout) (image : Image) (result : Result Log Refusal) → AreMetBelow g image 4 → LogEnds g image result
     → LogChecks g image result

@@ -26,7 +26,7 @@ AreOnlyBetween rows from to number =
 
 -- What was found in the cells below a number: the written ones, by rising numbers, and of the first pages how many stand
 -- before each.
-pub record AreKept (count : ℕ) (rows : List WrittenCell) (starts : List ℕ) : Type 0 where
+pub record AreCellsKept (count : ℕ) (rows : List WrittenCell) (starts : List ℕ) : Type 0 where
   pub few : count < 2 ^ 32
   pub most : length rows ≤ count
   pub each : (k : ℕ) (row : WrittenCell) → slice_get rows k ≡ Some row → (row.number < count) × IsCell row.cell

@@ -12,8 +12,8 @@ use Rattle.log_audit.specs.declared.kept.KeptCells.{KeptCells}
 use Rattle.log_audit.specs.declared.written.WrittenCell.{WrittenCell}
 
 -- the image that the kept cells show
-abbrev pub image_of : KeptCells → Image
-image_of kept = shown_by (all_rows kept.rows)
+abbrev pub image_of_kept : KeptCells → Image
+image_of_kept kept = shown_by (all_rows kept.rows)
 
 -- how many cells are kept, blank ones too
 abbrev pub count_of : KeptCells → ℕ
@@ -22,21 +22,21 @@ count_of kept = kept.count
 -- new is old with what was found in the next cell
 pub record IsNext (found : Option (List ℕ)) (old new : KeptCells) : Type 0 where
   pub count : count_of new ≡ count_of old + 1
-  pub here : image_of new (count_of old) ≡ found
-  pub others : (cell : ℕ) → cell ≢ count_of old → image_of new cell ≡ image_of old cell
+  pub here : image_of_kept new (count_of old) ≡ found
+  pub others : (cell : ℕ) → cell ≢ count_of old → image_of_kept new cell ≡ image_of_kept old cell
 
 -- The cells that were kept between two states of a device: they show what stood at the first, and nothing that does not
 -- stand at the second; so where nobody else wrote they show what stands.
-pub record IsKept (old new : DeviceState) (kept : KeptCells) : Type 0 where
-  pub above : Extends old.image (image_of kept)
-  pub below : Extends (image_of kept) new.image
-  pub quiet : IsStill old.foreign_writes new.foreign_writes → image_of kept ≡ new.image
-  pub before : IsStill old.foreign_writes new.foreign_writes → image_of kept ≡ old.image
+pub record IsKeptBetween (old new : DeviceState) (kept : KeptCells) : Type 0 where
+  pub above : Extends old.image (image_of_kept kept)
+  pub below : Extends (image_of_kept kept) new.image
+  pub quiet : IsStill old.foreign_writes new.foreign_writes → image_of_kept kept ≡ new.image
+  pub before : IsStill old.foreign_writes new.foreign_writes → image_of_kept kept ≡ old.image
 
 -- how reading all cells may end, and why
 abbrev pub KeepEnds : DeviceState → DeviceState → Result KeptCells Refusal → Type 0
 KeepEnds old new (Ok kept) =
-    (count_of kept ≡ old.cells) × (new.faults ≡ old.faults) × (IsTrue old.tells → IsKept old new kept)
+    (count_of kept ≡ old.cells) × (new.faults ≡ old.faults) × (IsTrue old.tells → IsKeptBetween old new kept)
 KeepEnds old new (Err DeviceFault) = Rose old.faults new.faults
 KeepEnds old new (Err NoMemory) = new.faults ≡ old.faults
 KeepEnds old new (Err refusal) = ⊥

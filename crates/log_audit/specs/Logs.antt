@@ -8,7 +8,7 @@ use Rattle.cell_types.specs.declared.refusal.Refusal.{Refusal}
 use Rattle.cell_types.specs.declared.refusal.Refusal.TheVariants.{Tampered, NoMemory}
 use Rattle.volume_meaning.specs.Slots.{cells_for, IsAbandoned, IsDone, HasEnded, EndsBelow}
 use Rattle.tamper_rules.specs.declared.numbers.TheConstants.{RESERVE_CELL}
-use Rattle.log_audit.specs.Findings.{AreMetBelow, IsFirst}
+use Rattle.log_audit.specs.Findings.{AreMetBelow, IsFirstBroken}
 use Rattle.log_audit.specs.declared.ended.EndedSlot.{EndedSlot}
 use Rattle.log_audit.specs.declared.ended.EndedSlot.TheVariants.{Abandoned, Done}
 use Rattle.log_audit.specs.declared.log.Log.{Log}
@@ -19,9 +19,9 @@ IsEnded g image n (Abandoned start length) = IsAbandoned g image image n start l
 IsEnded g image n (Done start length bytes journal) = IsDone g image n start length bytes journal
 
 -- its cells lie on a device, and what it states fits into them
-abbrev pub HasRoom : EndedSlot → Type 0
-HasRoom (Abandoned start length) = start + length ≤ MAX_CELLS
-HasRoom (Done start length bytes journal) = (start + length ≤ MAX_CELLS) × (cells_for bytes + journal ≤ length)
+abbrev pub FitsOnDevice : EndedSlot → Type 0
+FitsOnDevice (Abandoned start length) = start + length ≤ MAX_CELLS
+FitsOnDevice (Done start length bytes journal) = (start + length ≤ MAX_CELLS) × (cells_for bytes + journal ≤ length)
 
 -- where the cells that it reserves begin
 abbrev pub start_of : EndedSlot → ℕ
@@ -36,7 +36,8 @@ end_of (Done start length bytes journal) = start + length
 -- These are the slots below the one horizon, in order, and their reservations end at the edge.
 pub record IsLog (g : Layout) (image : Image) (log : Log) : Type 0 where
   pub few : length log.slots.items ≤ g.slots
-  pub each : (n : ℕ) (slot : EndedSlot) → slice_get log.slots.items n ≡ Some slot → IsEnded g image n slot × HasRoom slot
+  pub each : (n : ℕ) (slot : EndedSlot) → slice_get log.slots.items n ≡ Some slot → IsEnded g image n slot
+      × FitsOnDevice slot
   pub free : (n : ℕ) → length log.slots.items ≤ n → n < g.slots → image (reserve_at n) ≡ None
   pub ends : EndsBelow g image (length log.slots.items) log.edge
 
@@ -61,6 +62,6 @@ LogEnds g image (Err refusal) = ⊥
 -- slot has not ended.
 abbrev pub LogChecks : Layout → Image → Result Log Refusal → Type 0
 LogChecks g image (Ok log) = IsLog g image log × AreMetBelow g image 4
-LogChecks g image (Err (Tampered e)) = IsFirst g image e ⊎ IsUnended g image e
+LogChecks g image (Err (Tampered e)) = IsFirstBroken g image e ⊎ IsUnended g image e
 LogChecks g image (Err NoMemory) = ⊤
 LogChecks g image (Err refusal) = ⊥

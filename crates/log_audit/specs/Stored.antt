@@ -9,14 +9,14 @@ use Rattle.log_audit.specs.declared.log.Log.{Log}
 use Rattle.log_audit.specs.declared.stored.StoredSlot.{StoredSlot}
 
 -- its cells lie on a device, and its document and its journal fit into them
-pub record HasCells (s : StoredSlot) : Type 0 where
+pub record FitsInSlot (s : StoredSlot) : Type 0 where
   pub end : s.start + s.length ≤ MAX_CELLS
   pub fits : cells_for s.bytes + s.journal ≤ s.length
 
 -- the slot is done so
 pub record IsStored (g : Layout) (image : Image) (s : StoredSlot) : Type 0 where
   pub done : IsDone g image s.slot s.start s.length s.bytes s.journal
-  pub cells : HasCells s
+  pub cells : FitsInSlot s
 
 -- a stored slot of a volume with a log is live
 abbrev pub StoredIsLive : Type 0

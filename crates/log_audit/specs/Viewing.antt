@@ -5,7 +5,7 @@ use Rattle.std.proofs.lemmas.Bool.{eqb-true}
 use Rattle.std.proofs.lemmas.Option.{none-some}
 use Rattle.cell_types.specs.Bytes.{IsCell}
 use Rattle.worm_device.specs.Views.{IsView}
-use Rattle.log_audit.specs.Cells.{shown_by, AreKept}
+use Rattle.log_audit.specs.Cells.{shown_by, AreCellsKept}
 use Rattle.log_audit.specs.Kept.{view_over}
 use Rattle.log_audit.specs.declared.written.WrittenCell.{WrittenCell}
 
@@ -35,7 +35,8 @@ shown_one (row ∷ rows) number value h = ⊎_elim
     (here_or (number == row.number) row.cell value (shown_by rows number) h)
 
 -- so it is a written cell of a number below the count
-pub shown_within : {count : ℕ} {rows : List WrittenCell} {starts : List ℕ} → AreKept count rows starts → (number : ℕ) (value : List ℕ)
+pub shown_within : {count : ℕ} {rows : List WrittenCell} {starts : List ℕ} → AreCellsKept count rows starts
+    → (number : ℕ) (value : List ℕ)
     → shown_by rows number ≡ Some value → (number < count) × IsCell value
 shown_within kept number value h =
     let one = shown_one _ number value h in
@@ -46,7 +47,8 @@ blank_there : (found : Option (List ℕ)) → ((value : List ℕ) → found ≡ 
 blank_there None never = refl
 blank_there (Some value) never = absurd (never value refl)
 
-pub kept_is_view : (count : ℕ) (rows : List WrittenCell) (starts : List ℕ) → AreKept count rows starts → IsView (view_over count rows)
+pub kept_is_view : (count : ℕ) (rows : List WrittenCell) (starts : List ℕ) → AreCellsKept count rows starts
+    → IsView (view_over count rows)
 kept_is_view count rows starts are = record {
   cells = are.few;
   inside = λ cell value stands. shown_within are cell value stands;

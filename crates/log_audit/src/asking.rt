@@ -2,7 +2,7 @@
 ghost use Rattle.std.specs.Prelude.{◌≡◌, ◌<◌, ◌≤◌, ◌+◌, ◌*◌, ◌^◌, ℕ, Some, length, slice_get};
 ghost use Rattle.log_audit.specs.Cells.{shown_by, AreRising, AreOnlyBetween};
 ghost use Rattle.log_audit.specs.AllRows.{all_rows};
-ghost use Rattle.log_audit.specs.Kept.{image_of, count_of};
+ghost use Rattle.log_audit.specs.Kept.{image_of_kept, count_of};
 ghost use Rattle.log_audit.specs.declared.written.WrittenCell.{WrittenCell};
 
 use crate::KeptCells;
@@ -13,7 +13,7 @@ use cell_types::Cell;
 impl KeptCells {
     /// What was found in a cell, `None` where it was blank or is none of the kept ones.
     pub fn at(&self, number: u32) -> Option<Cell>
-        ensures { result ≡ image_of self.now number }
+        ensures { result ≡ image_of_kept self.now number }
     {
         let page = (number / PAGE_CELLS) as usize;
         let from = self.first_of(page);

@@ -1,5 +1,5 @@
 //! The log, checked.
-ghost use Rattle.log_audit.specs.Kept.{image_of};
+ghost use Rattle.log_audit.specs.Kept.{image_of_kept};
 ghost use Rattle.log_audit.specs.Logs.{LogChecks};
 
 use crate::broken::{first_broken_done, first_broken_outcome, first_broken_reserve};
@@ -15,7 +15,7 @@ use std::alloc::Global;
 /// `Tampered` with the least cell of the first of these rules that is broken, or with the reserve cell of a slot that has
 /// not ended; `NoMemory`.
 pub fn check_log(alloc: Global, kept: &KeptCells, geometry: &Geometry) -> Result<Log, Refusal>
-    ensures { LogChecks geometry.now (image_of kept.now) result }
+    ensures { LogChecks geometry.now (image_of_kept kept.now) result }
 {
     if let Some(reserve) = first_broken_reserve(kept, geometry) {
         return Err(Refusal::Tampered(reserve));

@@ -5,8 +5,8 @@ ghost use Rattle.cell_types.specs.Layout.{done_at};
 ghost use Rattle.cell_types.specs.declared.record_cell.RecordCell.TheVariants.{Done};
 ghost use Rattle.volume_meaning.specs.Slots.{HasEnded, IsStamped, cells_for};
 ghost use Rattle.volume_meaning.specs.Volumes.{Holds};
-ghost use Rattle.log_audit.specs.Kept.{image_of};
-ghost use Rattle.log_audit.specs.Logs.{IsEnded, HasRoom, start_of, end_of};
+ghost use Rattle.log_audit.specs.Kept.{image_of_kept};
+ghost use Rattle.log_audit.specs.Logs.{IsEnded, FitsOnDevice, start_of, end_of};
 
 use crate::kept::KeptCells;
 use crate::looks::{record_at, reservation};
@@ -44,7 +44,7 @@ impl EndedSlot {
 
     /// The cell behind those that it reserves.
     pub fn end(&self) -> u32
-        requires { HasRoom self.now }
+        requires { FitsOnDevice self.now }
         ensures { result ≡ end_of self.now }
     {
         match *self {
@@ -57,9 +57,9 @@ impl EndedSlot {
 /// What has come of a slot, if it has ended.
 pub fn ended_slot(kept: &KeptCells, geometry: &Geometry, slot: u32) -> Option<EndedSlot>
     requires { slot < geometry.now.slots }
-    ensures some { IfSome result (λ e. IsEnded geometry.now (image_of kept.now) slot e) }
-    ensures room { IfSome result (λ e. HasRoom e) }
-    ensures none { IfNone result (HasEnded geometry.now (image_of kept.now) (image_of kept.now) slot → ⊥) }
+    ensures some { IfSome result (λ e. IsEnded geometry.now (image_of_kept kept.now) slot e) }
+    ensures room { IfSome result (λ e. FitsOnDevice e) }
+    ensures none { IfNone result (HasEnded geometry.now (image_of_kept kept.now) (image_of_kept kept.now) slot → ⊥) }
 {
     let Some(reserved) = reservation(kept, geometry, slot) else {
         return None;
@@ -101,7 +101,7 @@ pub fn ended_slot(kept: &KeptCells, geometry: &Geometry, slot: u32) -> Option<En
 /// Whether the slot's done cell names it.
 pub(crate) fn is_done_cell(kept: &KeptCells, geometry: &Geometry, slot: u32) -> bool
     requires { slot < geometry.now.slots }
-    ensures { IsTrue result ↔ Holds (image_of kept.now) (done_at slot) (Done slot) }
+    ensures { IsTrue result ↔ Holds (image_of_kept kept.now) (done_at slot) (Done slot) }
 {
     let Some(held) = record_at(kept, geometry.done_at(slot)) else {
         return false;
@@ -115,7 +115,7 @@ pub(crate) fn is_done_cell(kept: &KeptCells, geometry: &Geometry, slot: u32) -> 
 /// Whether the slot has a stamp, where the volume's documents are stamped.
 pub(crate) fn has_its_stamp(kept: &KeptCells, geometry: &Geometry, slot: u32) -> bool
     requires { slot < geometry.now.slots }
-    ensures { IsTrue result ↔ (geometry.now.version ≡ STAMPED_VERSION → IsStamped (image_of kept.now) slot) }
+    ensures { IsTrue result ↔ (geometry.now.version ≡ STAMPED_VERSION → IsStamped (image_of_kept kept.now) slot) }
 {
     if geometry.version() != STAMPED_VERSION {
         return true;

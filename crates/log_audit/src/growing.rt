@@ -1,6 +1,6 @@
 //! Kept cells that grow by the next cell.
 ghost use Rattle.std.specs.Prelude.{◌≡◌, ◌<◌, ◌+◌, ◌^◌, ℕ, None, IfOk, OnOk};
-ghost use Rattle.log_audit.specs.Kept.{image_of, count_of, IsNext};
+ghost use Rattle.log_audit.specs.Kept.{image_of_kept, count_of, IsNext};
 
 use crate::KeptCells;
 use crate::chunked::ChunkedRows;
@@ -12,7 +12,7 @@ impl KeptCells {
     /// No cell is kept yet, and there is room for the pages of so many.
     pub(crate) fn none(alloc: Global, cells: u32) -> Result<KeptCells, NoMemory>
         ensures count { IfOk result (λ kept. count_of kept ≡ 0) }
-        ensures blank { IfOk result (λ kept. (cell : ℕ) → image_of kept cell ≡ None) }
+        ensures blank { IfOk result (λ kept. (cell : ℕ) → image_of_kept kept cell ≡ None) }
     {
         let pages = (cells / PAGE_CELLS) as usize + 1;
         let Ok(starts) = Vec::with_capacity(alloc, pages) else {

@@ -1,6 +1,6 @@
 //! Cells in memory.
 ghost use Rattle.std.proofs.Props.{props};
-ghost use Rattle.log_audit.specs.Cells.{AreKept};
+ghost use Rattle.log_audit.specs.Cells.{AreCellsKept};
 ghost use Rattle.log_audit.specs.AllRows.{all_rows};
 
 use crate::chunked::ChunkedRows;
@@ -12,5 +12,5 @@ pub struct KeptCells {
     pub(crate) rows: ChunkedRows,
     /// Of each page how many of the rows stand before it.
     pub(crate) starts: Vec<u32>,
-    ghost kept: { AreKept count (all_rows rows) starts.items } by { Prim.hlevel props },
+    ghost kept: { AreCellsKept count (all_rows rows) starts.items } by { Prim.hlevel props },
 }

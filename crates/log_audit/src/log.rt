@@ -1,6 +1,6 @@
 //! The slots that have ended, in memory.
 ghost use Rattle.std.specs.Prelude.{◌≡◌, [], IfOk};
-ghost use Rattle.log_audit.specs.Kept.{image_of};
+ghost use Rattle.log_audit.specs.Kept.{image_of_kept};
 ghost use Rattle.log_audit.specs.Logs.{LogEnds};
 ghost use Rattle.log_audit.specs.Findings.{AreMetBelow};
 
@@ -37,8 +37,8 @@ impl Log {
 ///
 /// `Tampered` with the reserve cell of a slot that has not ended, and `NoMemory`.
 pub fn log_of(alloc: Global, kept: &KeptCells, geometry: &Geometry) -> Result<Log, Refusal>
-    requires { AreMetBelow geometry.now (image_of kept.now) 4 }
-    ensures { LogEnds geometry.now (image_of kept.now) result }
+    requires { AreMetBelow geometry.now (image_of_kept kept.now) 4 }
+    ensures { LogEnds geometry.now (image_of_kept kept.now) result }
 {
     let mut slots = room_for_slots(alloc, kept, geometry)?;
     let mut edge = geometry.pool_at();

@@ -4,7 +4,7 @@ ghost use Rattle.cell_types.specs.declared.record_cell.RecordCell.{RecordCell};
 ghost use Rattle.cell_types.specs.declared.geometry.TheConstants.{MAX_CELLS};
 ghost use Rattle.volume_meaning.specs.Slots.{Reserves};
 ghost use Rattle.volume_meaning.specs.Volumes.{Holds};
-ghost use Rattle.log_audit.specs.Kept.{image_of};
+ghost use Rattle.log_audit.specs.Kept.{image_of_kept};
 ghost use Rattle.log_audit.specs.Leads.{LiesInPool};
 
 use crate::kept::KeptCells;
@@ -13,9 +13,9 @@ use commit_record::Reservation;
 
 /// The record that stands in a cell, if one does that is well-formed there.
 pub fn record_at(kept: &KeptCells, at: u32) -> Option<RecordCell>
-    ensures some { IfSome result (λ held. Holds (image_of kept.now) at held) }
-    ensures none { IfNone result ((held : RecordCell) → Holds (image_of kept.now) at held → ⊥) }
-    ensures one { (held : RecordCell) → Holds (image_of kept.now) at held → result ≡ Some held }
+    ensures some { IfSome result (λ held. Holds (image_of_kept kept.now) at held) }
+    ensures none { IfNone result ((held : RecordCell) → Holds (image_of_kept kept.now) at held → ⊥) }
+    ensures one { (held : RecordCell) → Holds (image_of_kept kept.now) at held → result ≡ Some held }
 {
     let Some(cell) = kept.at(at) else {
         return None;
@@ -26,9 +26,9 @@ pub fn record_at(kept: &KeptCells, at: u32) -> Option<RecordCell>
 /// The cells that a slot reserves, where they lie in the pool.
 pub fn reservation(kept: &KeptCells, geometry: &Geometry, slot: u32) -> Option<Reservation>
     requires { slot < geometry.now.slots }
-    ensures some { IfSome result (λ r. Reserves geometry.now (image_of kept.now) slot r.start r.length) }
+    ensures some { IfSome result (λ r. Reserves geometry.now (image_of_kept kept.now) slot r.start r.length) }
     ensures most { IfSome result (λ r. r.start + r.length ≤ MAX_CELLS) }
-    ensures none { IfNone result ((start length : ℕ) → Reserves geometry.now (image_of kept.now) slot start length → ⊥) }
+    ensures none { IfNone result ((start length : ℕ) → Reserves geometry.now (image_of_kept kept.now) slot start length → ⊥) }
 {
     let Some(held) = record_at(kept, geometry.reserve_at(slot)) else {
         return None;

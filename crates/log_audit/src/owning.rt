@@ -2,7 +2,7 @@
 ghost use Rattle.std.specs.Prelude.{◌<◌, ◌^◌, ℕ, length, IfSome, IfNone};
 ghost use Rattle.tamper_rules.specs.Journals.{LiesInBlocks};
 ghost use Rattle.tamper_rules.specs.Rules.{ReserveCells};
-ghost use Rattle.log_audit.specs.Kept.{image_of};
+ghost use Rattle.log_audit.specs.Kept.{image_of_kept};
 ghost use Rattle.log_audit.specs.Findings.{IsMetAll};
 ghost use Rattle.log_audit.specs.Logs.{IsLog};
 ghost use Rattle.log_audit.specs.Owning.{AreInRow, HasCell};
@@ -14,10 +14,10 @@ use cell_types::Geometry;
 
 /// The slot in whose block part a cell lies, if it lies in one.
 pub fn owner_of(kept: &KeptCells, geometry: &Geometry, log: &Log, cell: u32) -> Option<u32>
-    requires log { IsLog geometry.now (image_of kept.now) log.now }
-    requires met { IsMetAll geometry.now (image_of kept.now) ReserveCells }
-    ensures some { IfSome result (λ m. LiesInBlocks geometry.now (image_of kept.now) m cell) }
-    ensures none { IfNone result ((m : ℕ) → LiesInBlocks geometry.now (image_of kept.now) m cell → ⊥) }
+    requires log { IsLog geometry.now (image_of_kept kept.now) log.now }
+    requires met { IsMetAll geometry.now (image_of_kept kept.now) ReserveCells }
+    ensures some { IfSome result (λ m. LiesInBlocks geometry.now (image_of_kept kept.now) m cell) }
+    ensures none { IfNone result ((m : ℕ) → LiesInBlocks geometry.now (image_of_kept kept.now) m cell → ⊥) }
 {
     let _few = geometry.slots();
     let Some(slot) = reserving_slot(log, cell) else {

@@ -5,7 +5,7 @@ ghost use Rattle.cell_types.specs.declared.record_cell.RecordCell.TheVariants.{R
 ghost use Rattle.volume_meaning.specs.Slots.{cells_for};
 ghost use Rattle.volume_meaning.specs.Volumes.{Holds};
 ghost use Rattle.tamper_rules.specs.Rules.{ReserveRule, OutcomeRule, DoneRule};
-ghost use Rattle.log_audit.specs.Kept.{image_of};
+ghost use Rattle.log_audit.specs.Kept.{image_of_kept};
 
 use crate::ended::{ended_slot, fits_into, has_its_stamp, is_done_cell};
 use crate::kept::KeptCells;
@@ -15,7 +15,7 @@ use cell_types::{Geometry, RecordCell};
 /// Whether rule 1 is kept at the reserve cell of a slot.
 pub(crate) fn keeps_reserve_rule(kept: &KeptCells, geometry: &Geometry, slot: u32) -> bool
     requires { slot < geometry.now.slots }
-    ensures { IsTrue result ↔ ReserveRule geometry.now (image_of kept.now) slot }
+    ensures { IsTrue result ↔ ReserveRule geometry.now (image_of_kept kept.now) slot }
 {
     let Some(reserved) = reservation(kept, geometry, slot) else {
         return false;
@@ -32,7 +32,7 @@ pub(crate) fn keeps_reserve_rule(kept: &KeptCells, geometry: &Geometry, slot: u3
 /// Whether rule 2 is kept at the outcome cell of a slot.
 pub(crate) fn keeps_outcome_rule(kept: &KeptCells, geometry: &Geometry, slot: u32) -> bool
     requires { slot < geometry.now.slots }
-    ensures { IsTrue result ↔ OutcomeRule geometry.now (image_of kept.now) slot }
+    ensures { IsTrue result ↔ OutcomeRule geometry.now (image_of_kept kept.now) slot }
 {
     if kept.at(geometry.reserve_at(slot)).is_none() {
         return false;
@@ -57,7 +57,7 @@ pub(crate) fn keeps_outcome_rule(kept: &KeptCells, geometry: &Geometry, slot: u3
 fn fits_reserved(kept: &KeptCells, geometry: &Geometry, slot: u32, bytes: u32, journal: u32) -> bool
     requires { slot < geometry.now.slots }
     ensures { IsTrue result ↔ ((start reserved : ℕ)
-        → Holds (image_of kept.now) (reserve_at slot) (Reserve start reserved) → cells_for bytes + journal ≤ reserved) }
+        → Holds (image_of_kept kept.now) (reserve_at slot) (Reserve start reserved) → cells_for bytes + journal ≤ reserved) }
 {
     let Some(held) = record_at(kept, geometry.reserve_at(slot)) else {
         return true;
@@ -75,7 +75,7 @@ fn fits_reserved(kept: &KeptCells, geometry: &Geometry, slot: u32, bytes: u32, j
 /// Whether rule 3 is kept at the done cell of a slot.
 pub(crate) fn keeps_done_rule(kept: &KeptCells, geometry: &Geometry, slot: u32) -> bool
     requires { slot < geometry.now.slots }
-    ensures { IsTrue result ↔ DoneRule (image_of kept.now) slot }
+    ensures { IsTrue result ↔ DoneRule (image_of_kept kept.now) slot }
 {
     if !is_done_cell(kept, geometry, slot) {
         return false;

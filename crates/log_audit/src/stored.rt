@@ -1,7 +1,7 @@
 //! Slots that hold documents.
 ghost use Rattle.std.specs.Prelude.{◌≡◌, ℕ, IfSome, IfNone};
 ghost use Rattle.volume_meaning.specs.Slots.{Stores};
-ghost use Rattle.log_audit.specs.Kept.{image_of};
+ghost use Rattle.log_audit.specs.Kept.{image_of_kept};
 ghost use Rattle.log_audit.specs.Logs.{IsLog};
 ghost use Rattle.log_audit.specs.Stored.{IsStored};
 
@@ -26,11 +26,11 @@ impl StoredSlot {
     ghost use Rattle.std.specs.Prelude.{◌≤◌};
     ghost use Rattle.volume_meaning.specs.Documents.{document_at};
     ghost use Rattle.tamper_rules.specs.Journals.{journal_at};
-    ghost use Rattle.log_audit.specs.Stored.{HasCells};
+    ghost use Rattle.log_audit.specs.Stored.{FitsInSlot};
 
     /// The first cell of its journal.
     pub fn journal_at(&self) -> u32
-        requires { HasCells self.now }
+        requires { FitsInSlot self.now }
         ensures at { result ≡ journal_at self.now.start self.now.length self.now.journal }
         ensures from { self.now.start ≤ result }
     {
@@ -39,7 +39,7 @@ impl StoredSlot {
 
     /// The first cell of its document, and the cell behind its blocks.
     pub fn document_at(&self) -> u32
-        requires { HasCells self.now }
+        requires { FitsInSlot self.now }
         ensures at { result ≡ document_at self.now.start self.now.length self.now.bytes self.now.journal }
         ensures from { self.now.start ≤ result }
     {
@@ -55,11 +55,11 @@ pub fn stored_slot(
     log: &Log,
     slot: u32,
 ) -> Option<StoredSlot>
-    requires { IsLog _geometry.now (image_of _kept.now) log.now }
-    ensures some { IfSome result (λ s. IsStored _geometry.now (image_of _kept.now) s) }
+    requires { IsLog _geometry.now (image_of_kept _kept.now) log.now }
+    ensures some { IfSome result (λ s. IsStored _geometry.now (image_of_kept _kept.now) s) }
     ensures same { IfSome result (λ s. s.slot ≡ slot) }
     ensures none { IfNone result ((start length bytes journal : ℕ)
-        → Stores _geometry.now (image_of _kept.now) slot start length bytes journal → ⊥) }
+        → Stores _geometry.now (image_of_kept _kept.now) slot start length bytes journal → ⊥) }
 {
     let Some(ended) = log.at(slot) else {
         return None;

@@ -8,7 +8,7 @@ use Rattle.volume_meaning.specs.Blocks.{Leads}
 use Rattle.volume_meaning.specs.Nodes.{IsNode}
 use Rattle.volume_meaning.specs.Postings.{ListedPosting}
 use Rattle.tamper_rules.specs.Journals.{IsIndexCell}
-use Rattle.ingest_laws.specs.Filling.{IsCopy, IsPlannedCopy}
+use Rattle.ingest_laws.specs.Filling.{IsCopyInPlan, IsPlannedCopy}
 use Rattle.ingest_laws.specs.Ingesting.{Plan}
 use Rattle.ingest_laws.proofs.SettledShapes.{leads_wider}
 use Rattle.hash_tree.specs.declared.level.Level.{Level}
@@ -52,7 +52,7 @@ module _ {g : Layout} {old laid : Image} {p : Plan} {rows : List ListedPosting} 
   record Copied (at : ℕ) : Type 0 where
     target : ℕ
     copied : RecordCell
-    copy : IsCopy p at target copied
+    copy : IsCopyInPlan p at target copied
     number : slice_get h.journal.numbers at ≡ Some target
     value : List ℕ
     stands : planned target ≡ Some value

@@ -14,16 +14,16 @@ use Rattle.volume_meaning.proofs.Holding.{one_record_holds, some_is}
 use Rattle.volume_meaning.specs.Blocks.{Leads, PostingFields, posting_record}
 use Rattle.volume_meaning.specs.Nodes.{AreApart, IsNode}
 use Rattle.volume_meaning.specs.Postings.{ListedPosting}
-use Rattle.tamper_rules.specs.Journals.{Copies, IsIndexRecord, journal_at}
+use Rattle.tamper_rules.specs.Journals.{CopiesIndexCell, IsIndexRecord, journal_at}
 use Rattle.tamper_rules.specs.Rules.{HasChild, HasJump, IsSize, TilingRule}
 use Rattle.tamper_rules.specs.Rules as rules
 use Rattle.tamper_rules.proofs.GivenUp.{children, jumps}
 use Rattle.tamper_rules.proofs.Writing.{same_or_not}
 use Rattle.ingest_laws.specs.Ingesting.{Plan, Storing, stored_of}
-use Rattle.cell_pool.specs.Grants.{Grant, Tile}
+use Rattle.cell_pool.specs.Grants.{Grant, GrantsTileCells}
 use Rattle.hash_tree.specs.declared.level.Level.{Level}
 use Rattle.hash_tree.specs.declared.path.Open.{Open}
-use Rattle.ingest_plan.specs.Granting.{IsLedTo, to_block, to_node}
+use Rattle.ingest_plan.specs.Granting.{IsGrantLedTo, to_block, to_node}
 use Rattle.plan_laws.specs.Laws.{IsPlannedIndex}
 use Rattle.plan_laws.proofs.Behind.{IsPlannedCell, a_posting, a_pointer, a_bucket, a_child, planned_cell, stand_behind}
 use Rattle.plan_laws.proofs.NewImage.{ends_there, new_image}
@@ -49,11 +49,11 @@ no_jump_leads : (other target : ℕ) → Jump other ≡ Child target → ⊥
 no_jump_leads other target same = cc
 
 -- pieces that tile cells: they rise, each lies inside, and each cell lies in one
-tile_rises : (from end : ℕ) (grants : List Grant) → Tile from end grants → from ≤ end
+tile_rises : (from end : ℕ) (grants : List Grant) → GrantsTileCells from end grants → from ≤ end
 tile_rises from end [] same = omega (arith, same)
 tile_rises from end (grant ∷ grants) (at, rest) = omega (arith, tile_rises (from + grant.size) end grants rest)
 
-tile_inside : (from end : ℕ) (grants : List Grant) (i : ℕ) (grant : Grant) → Tile from end grants
+tile_inside : (from end : ℕ) (grants : List Grant) (i : ℕ) (grant : Grant) → GrantsTileCells from end grants
     → slice_get grants i ≡ Some grant → (from ≤ grant.at) × (grant.at + grant.size ≤ end)
 tile_inside from end [] i grant same is = absurd (none-some _ is)
 tile_inside from end (first ∷ grants) zero grant (at, rest) is =
@@ -73,7 +73,7 @@ record HasCell (grants : List Grant) (cell : ℕ) : Type 0 where
   from : grant.at ≤ cell
   below : cell < grant.at + grant.size
 
-tile_has : (from end cell : ℕ) (grants : List Grant) → Tile from end grants → from ≤ cell → cell < end
+tile_has : (from end cell : ℕ) (grants : List Grant) → GrantsTileCells from end grants → from ≤ cell → cell < end
     → HasCell grants cell
 tile_has from end cell [] same low high = absurd (omega (arith, same, low, high))
 tile_has from end cell (grant ∷ grants) (at, rest) low high = ⊎_elim
@@ -97,7 +97,7 @@ mapped (Some grant) target is = (grant, refl, cc)
 module _ {g : Layout} {old laid : Image} {p : Plan} {rows : List ListedPosting} {level : Level} {place : Open} {to : ℕ}
     {planned : Image} (h : IsPlannedIndex g old laid p rows level place to planned) where
   -- what the journal copies in the new image is planned
-  copies_planned : {at cell : ℕ} {r : RecordCell} → Copies (new_image h) p.start p.reserved (length p.journal) at cell r
+  copies_planned : {at cell : ℕ} {r : RecordCell} → CopiesIndexCell (new_image h) p.start p.reserved (length p.journal) at cell r
       → Holds planned cell r
   copies_planned {at} {cell} {r} copies =
       let found = slice_get-get_or p.journal at [] copies.below in
@@ -119,7 +119,7 @@ module _ {g : Layout} {old laid : Image} {p : Plan} {rows : List ListedPosting} 
 
   -- and what is planned is copied
   planned_copies : {cell : ℕ} {r : RecordCell} → IsIndexRecord r → Holds planned cell r
-      → (at : ℕ) × Copies (new_image h) p.start p.reserved (length p.journal) at cell r
+      → (at : ℕ) × CopiesIndexCell (new_image h) p.start p.reserved (length p.journal) at cell r
   planned_copies {cell} {r} index holds =
       let row = of_planned h cell holds.cell holds.stands in (
         row.place,
@@ -174,7 +174,7 @@ module _ {g : Layout} {old laid : Image} {p : Plan} {rows : List ListedPosting} 
           let same = children other target (one_planned holds holds.stands child) in
           a_node 32 w refl (subst (λ (t : ℕ). IsNode g laid w t) same to_other)
 
-  grant_piece : (grant : Grant) → IsLedTo planned grant → IsPiece grant.at grant.size
+  grant_piece : (grant : Grant) → IsGrantLedTo planned grant → IsPiece grant.at grant.size
   grant_piece grant (to_block cell holds size) = subst (λ (n : ℕ). IsPiece grant.at n) (sym size) (jump_piece holds)
   grant_piece grant (to_node cell holds size) = subst (λ (n : ℕ). IsPiece grant.at n) (sym size) (child_piece holds)
 
@@ -248,17 +248,17 @@ module _ {g : Layout} {old laid : Image} {p : Plan} {rows : List ListedPosting} 
   child_copied (at, cell, copies) = child_piece (copies_planned copies)
 
   -- what the pool gave is copied as a target
-  has_target : {grant : Grant} → IsLedTo planned grant → HasJumpTo grant.at ⊎ HasChildTo grant.at
+  has_target : {grant : Grant} → IsGrantLedTo planned grant → HasJumpTo grant.at ⊎ HasChildTo grant.at
   has_target (to_block cell holds size) = let copies = planned_copies tt holds in inl (copies.0, cell, copies.1)
   has_target (to_node cell holds size) = let copies = planned_copies tt holds in inr (copies.0, cell, copies.1)
 
-  has_size : {grant : Grant} → IsLedTo planned grant
+  has_size : {grant : Grant} → IsGrantLedTo planned grant
       → IsSize (new_image h) p.start p.reserved (length p.journal) grant.at grant.size
   has_size (to_block cell holds size) = let copies = planned_copies tt holds in inl (size, (copies.0, cell, copies.1))
   has_size (to_node cell holds size) = inr (size, λ jump. clash (jump_copied jump) (child_piece holds))
 
   tiled : (from end : ℕ) (grants : List Grant)
-      → ((i : ℕ) (grant : Grant) → slice_get grants i ≡ Some grant → IsLedTo planned grant) → Tile from end grants
+      → ((i : ℕ) (grant : Grant) → slice_get grants i ≡ Some grant → IsGrantLedTo planned grant) → GrantsTileCells from end grants
       → rules.Tile (new_image h) p.start p.reserved (length p.journal) from end
       (map (λ (grant : Grant). grant.at) grants)
   tiled from end [] led same = same

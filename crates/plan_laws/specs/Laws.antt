@@ -18,7 +18,7 @@ use Rattle.hash_tree.specs.declared.level.Level.{Level}
 use Rattle.hash_tree.specs.declared.path.Open.{Open}
 use Rattle.hash_tree.specs.Readiness.{PassedDown}
 use Rattle.ingest_plan.specs.Granting.{GivesWhatIsLedTo}
-use Rattle.ingest_plan.specs.Indexes.{IsIndexCell}
+use Rattle.ingest_plan.specs.Indexes.{HoldsIndexRecord}
 use Rattle.ingest_plan.specs.Journal.{IsJournal}
 use Rattle.ingest_plan.specs.Standing.{IndexStands}
 use Rattle.plan_laws.specs.Standing.{EndsPath, below_slot, seconds_of}
@@ -55,7 +55,7 @@ pub record IsPlannedIndex (g : Layout) (old laid : Image) (p : Plan) (rows : Lis
   pub digest : level.digest ≡ sha256 p.id
   pub passed : PassedDown g old (sought_in g.cells g p.id) level place.child
   pub journal : IsJournal planned p.journal
-  pub index : (cell : ℕ) (value : List ℕ) → planned cell ≡ Some value → IsIndexCell g cell value
+  pub index : (cell : ℕ) (value : List ℕ) → planned cell ≡ Some value → HoldsIndexRecord g cell value
   pub before : (cell : ℕ) → to ≤ cell → planned cell ≡ None
   pub blank : (cell : ℕ) (value : List ℕ) → planned cell ≡ Some value → old cell ≡ None
   pub grants : GivesWhatIsLedTo planned p.start to

@@ -11,7 +11,7 @@ use Rattle.volume_meaning.specs.Postings.{ListedPosting}
 use Rattle.tamper_rules.specs.Settling.{IsSettled}
 use Rattle.ingest_laws.specs.TreeShapes.{IsWellRooted}
 use Rattle.jump_insertion.specs.Evidence.{IsPastStamps}
-use Rattle.hash_tree.specs.Levels.{IsReached}
+use Rattle.hash_tree.specs.Levels.{IsLevelReached}
 use Rattle.hash_tree.specs.Steps.{IsOpenOf}
 use Rattle.hash_tree.specs.declared.level.Level.{Level}
 use Rattle.hash_tree.specs.declared.path.Open.{Open}
@@ -56,7 +56,7 @@ pub record EndsPath (g : Layout) (image : Image) (level : Level) (place : Open) 
   pub digest : AreBytes level.digest
   pub number : level.number < 64
   pub open_at : IsOpenOf g level place
-  pub node : IsReached g image level
+  pub node : IsLevelReached g image level
   pub blank : image (blank_of place) ≡ None
   pub bucket : (child : ℕ) → place.child ≡ Some child → IsWritten image place.bucket
 

@@ -15,7 +15,7 @@ use Rattle.worm_device.specs.State.{DeviceState}
 use Rattle.worm_device.proofs.Counting.{still_first, still_second}
 use Rattle.worm_device.proofs.Elapsing.{called_self, called_then}
 use Rattle.worm_device.proofs.Images.{unchanged_then}
-use Rattle.plan_writer.specs.Blank.{AlongEnds, IsOfCells, LooksAlong, NothingFound, RowEnds}
+use Rattle.plan_writer.specs.Blank.{AlongEnds, IsOfCells, LooksAlong, NothingFound, RowLookEnds}
 
 -- nothing was found in one place more
 pub nothing_more : (row : List (Option (List ℕ))) (n : ℕ) (d : Option (List ℕ)) → NothingFound n row → n < length row
@@ -43,7 +43,7 @@ module _ (cells : Reservation) (old new : DeviceState) {room found : List (Optio
       subst (λ (k : ℕ). old.image k ≡ None) (sym p.2)
       (reads.answer tells p.0 None (omega (arith, p.2, below, most)) (none p.0 (omega (arith, p.2, below))))
 
-  ends : (result : Result Unit Fault) → RowEnds cells.start found result → AlongEnds cells old new result
+  ends : (result : Result Unit Fault) → RowLookEnds cells.start found result → AlongEnds cells old new result
   ends (Ok u) none = (
     reads.cause,
     λ tells cell is. was_blank (length found) (omega arith) none tells cell is
@@ -65,7 +65,7 @@ module _ (cells : Reservation) (old new : DeviceState) {room found : List (Optio
         ),
       )
 
-  pub row_looked : (result : Result Unit Fault) → RowEnds cells.start found result → LooksAlong cells old new result
+  pub row_looked : (result : Result Unit Fault) → RowLookEnds cells.start found result → LooksAlong cells old new result
   row_looked result row = record { called = reads.called; quiet = reads.only; ends = ends result row }
 
 -- those below this one were blank, and no look failed

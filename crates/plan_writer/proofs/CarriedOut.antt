@@ -15,7 +15,7 @@ use Rattle.volume_meaning.proofs.Extending.{volume_on}
 use Rattle.tamper_rules.specs.declared.numbers.TheConstants.{STRAY_CELL}
 use Rattle.worm_device.specs.State.{DeviceState}
 use Rattle.worm_device.proofs.Images.{extends_then}
-use Rattle.plan_writer.specs.Blank.{IsFree}
+use Rattle.plan_writer.specs.Blank.{IsSlotFree}
 use Rattle.plan_writer.specs.Planned.{INGEST_PHASES, IsStampPut, PlansDocument, Suits, commit_put, document_from, ingest_phases, journal_from, reserve_put, reserved_by}
 use Rattle.plan_writer.specs.PuttingPlans.{IsCarriedOut}
 use Rattle.plan_writer.specs.declared.plan.Plan.{Plan}
@@ -24,7 +24,7 @@ use Rattle.plan_writer.proofs.Stated.{commits_by, done_by, stamp_by}
 module _ (g : Layout) (n : ℕ) (p : Plan) (old : Image) {s2 s4 : DeviceState} (layout : IsLayout g) (less : n < g.slots)
     (suits : Suits g p) (u : Unit {0}) (phases : PutsPhases (ingest_phases n p) INGEST_PHASES s2 s4 (Ok u))
     (tells : IsTrue s2.tells) (volume : IsVolume s2.cells s2.image g)
-    (unused : IsUnused g old n) (free : IsFree old n (reserved_by p)) (synced : Extends old s2.sure) where
+    (unused : IsUnused g old n) (free : IsSlotFree old n (reserved_by p)) (synced : Extends old s2.sure) where
   put_sure : (j : ℕ) (put : Put) → j < 5 → ingest_phases n p j put → s4.sure put.at ≡ Some put.value
   put_sure j put below h = (phases.sure tells).0 put (j, below, h)
 

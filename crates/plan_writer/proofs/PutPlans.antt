@@ -12,9 +12,9 @@ use Rattle.volume_meaning.specs.Slots.{IsUnused}
 use Rattle.volume_meaning.proofs.Extending.{blank_before}
 use Rattle.worm_device.specs.State.{DeviceState}
 use Rattle.worm_device.proofs.Images.{extends_then}
-use Rattle.plan_writer.specs.Blank.{IsFree}
+use Rattle.plan_writer.specs.Blank.{IsSlotFree}
 use Rattle.plan_writer.specs.Planned.{INGEST_PHASES, Suits, ingest_phases, reserved_by}
-use Rattle.plan_writer.specs.PuttingPlans.{PlanEnds}
+use Rattle.plan_writer.specs.PuttingPlans.{PutPlanEnds}
 use Rattle.plan_writer.specs.declared.plan.Plan.{Plan}
 use Rattle.plan_writer.proofs.CarriedOut.{carried_out}
 use Rattle.plan_writer.proofs.PutFrom.{called, free_0, free_2, tells_2, volume_2}
@@ -22,9 +22,9 @@ use Rattle.plan_writer.proofs.TakenCells.{taken_found}
 
 module _ (p : Plan) {s0 s2 : DeviceState} (r : Ready) (has : HasSettled s0 s2 r) (layout : IsLayout r.volume.geometry)
     (less : r.horizon < r.volume.geometry.slots) (suits : Suits r.volume.geometry p)
-    (free : IsTrue s2.tells → IsFree s2.image r.horizon (reserved_by p)) where
+    (free : IsTrue s2.tells → IsSlotFree s2.image r.horizon (reserved_by p)) where
   -- what was blank at entry was blank before the volume was settled
-  free_before : IsTrue s0.tells → IsFree s0.image r.horizon (reserved_by p)
+  free_before : IsTrue s0.tells → IsSlotFree s0.image r.horizon (reserved_by p)
   free_before tells =
       let f = free (tells_2 r has tells) in
       let on = (called r has).image in
@@ -42,7 +42,7 @@ module _ (p : Plan) {s0 s2 : DeviceState} (r : Ready) (has : HasSettled s0 s2 r)
 
   -- the plan is carried out
   pub plan_done : {s4 : DeviceState} (u : Unit {0}) → PutsPhases (ingest_phases r.horizon p) INGEST_PHASES s2 s4 (Ok u)
-      → PlanEnds r.volume.geometry p r.horizon s0 s2 s4 (Ok r.horizon)
+      → PutPlanEnds r.volume.geometry p r.horizon s0 s2 s4 (Ok r.horizon)
   plan_done u phases = (
     refl,
     λ tells.
@@ -54,7 +54,7 @@ module _ (p : Plan) {s0 s2 : DeviceState} (r : Ready) (has : HasSettled s0 s2 r)
   -- or a cell was taken, or a call failed
   pub plan_refused : {s4 : DeviceState} (fault : Fault)
       → PutsPhases (ingest_phases r.horizon p) INGEST_PHASES s2 s4 (Err fault)
-      → Extends s4.sure s4.image → PlanEnds r.volume.geometry p r.horizon s0 s2 s4 (Err fault)
+      → Extends s4.sure s4.image → PutPlanEnds r.volume.geometry p r.horizon s0 s2 s4 (Err fault)
   plan_refused Failed phases proper = omega (arith, phases.puts.ends, (called r has).faults)
   plan_refused (Tampered e) phases proper = λ tells.
       let now = tells_2 r has tells in

@@ -17,9 +17,9 @@ use Rattle.worm_device.specs.Counts.{IsStill}
 use Rattle.worm_device.specs.State.{DeviceState}
 use Rattle.worm_device.proofs.Counting.{still_first, still_second}
 use Rattle.worm_device.proofs.Images.{extends_self}
-use Rattle.plan_writer.specs.Blank.{IsFirstWritten, IsOfSlot, LooksForSlot, done, outcome, reserved, spare}
+use Rattle.plan_writer.specs.Blank.{IsFirstWritten, IsOfNewSlot, LooksForSlot, done, outcome, reserved, spare}
 use Rattle.plan_writer.specs.Planned.{Suits, reserved_by}
-use Rattle.plan_writer.specs.PuttingPlans.{IsFoundByPlan, IsPlanRule, PlanEnds}
+use Rattle.plan_writer.specs.PuttingPlans.{IsFoundByPlan, IsPlanRule, PutPlanEnds}
 use Rattle.plan_writer.specs.declared.plan.Plan.{Plan}
 use Rattle.plan_writer.proofs.FirstWritten.{first_breaks, first_place, first_where}
 use Rattle.plan_writer.proofs.PutFrom.{ahead_0, called, ends_0, ends_2, free_0, free_2, tells_2, volume_0, volume_2}
@@ -35,7 +35,7 @@ first_rule (reserved r w a b c before) = inr (inr (inr (inr r)))
 
 -- it is the slot's own, or one that it is to reserve
 first_own : {image : Image} {n : ℕ} {cells : Reservation} {e : Evidence} → IsFirstWritten image n cells e
-    → IsOfSlot n cells e.cell
+    → IsOfNewSlot n cells e.cell
 first_own (outcome r c) = inl (omega (arith, c), omega (arith, c))
 first_own (done r c a) = inl (omega (arith, c), omega (arith, c))
 first_own (spare r c a b) = inl (omega (arith, c), omega (arith, c))
@@ -124,7 +124,7 @@ module _ (p : Plan) {s0 s2 s3 : DeviceState} (r : Ready) (has : HasSettled s0 s2
 pub blank_refused : (p : Plan) {s0 s2 s3 : DeviceState} (r : Ready) (has : HasSettled s0 s2 r)
     → r.horizon < r.volume.geometry.slots → p.start ≡ r.edge → Suits r.volume.geometry p → (fault : Fault)
     → LooksForSlot r.horizon (reserved_by p) s2 s3 (Err fault)
-    → PlanEnds r.volume.geometry p r.horizon s0 s2 s3 (Err fault)
+    → PutPlanEnds r.volume.geometry p r.horizon s0 s2 s3 (Err fault)
 blank_refused p r has less starts suits Failed looks = omega (arith, looks.ends, (called r has).faults)
 blank_refused p r has less starts suits (Tampered e) looks = λ tells.
     let ends = looks.ends (tells_2 r has tells) in

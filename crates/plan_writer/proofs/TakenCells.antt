@@ -16,14 +16,14 @@ use Rattle.volume_meaning.specs.Slots.{Commits}
 use Rattle.volume_meaning.specs.Volumes.{IsVolume}
 use Rattle.volume_meaning.proofs.Extending.{volume_on}
 use Rattle.volume_meaning.proofs.Holding.{some_is}
-use Rattle.tamper_rules.specs.Journals.{Copies, journal_at}
+use Rattle.tamper_rules.specs.Journals.{CopiesIndexCell, journal_at}
 use Rattle.tamper_rules.specs.Rules.{DoneCells, IsPlaceOf, OutcomeCells, RedoneRule, ReserveCells, StrayCells, Targets}
 use Rattle.tamper_rules.specs.declared.numbers.TheConstants.{DONE_CELL, OUTCOME_CELL, RESERVE_CELL, STRAY_CELL}
 use Rattle.worm_device.specs.Counts.{IsStill}
 use Rattle.worm_device.specs.State.{DeviceState}
 use Rattle.worm_device.specs.Calls.{Called}
 use Rattle.worm_device.proofs.Counting.{still_first, still_second}
-use Rattle.plan_writer.specs.Blank.{IsFree, IsOfSlot}
+use Rattle.plan_writer.specs.Blank.{IsSlotFree, IsOfNewSlot}
 use Rattle.plan_writer.specs.Planned.{INGEST_PHASES, IsAskedPut, IsPooledPut, IsStampPut, Suits, commit_put, document_from, ingest_phases, journal_from, reserve_put, reserved_by}
 use Rattle.plan_writer.specs.PuttingPlans.{AsksForBlank, IsFoundByPlan, IsPlanRule}
 use Rattle.plan_writer.specs.declared.plan.Plan.{Plan}
@@ -45,7 +45,7 @@ blames w number at value found e is blame = is ∙ ap (λ (b : Blame). blamed b 
 
 module _ (g : Layout) (n : ℕ) (p : Plan) {s0 s2 s4 : DeviceState} (layout : IsLayout g) (less : n < g.slots)
     (suits : Suits g p) (c02 : Called s0 s2) (c24 : Called s2 s4) (volume : IsVolume s2.cells s2.image g)
-    (free : IsFree s2.image n (reserved_by p))
+    (free : IsSlotFree s2.image n (reserved_by p))
     (unreserved : IsStill s0.foreign_writes s2.foreign_writes → s2.image (reserve_at n) ≡ None)
     (e : Evidence) (t : IsTakenIn (ingest_phases n p) INGEST_PHASES s2 s4 e)
     (only : IsStill s2.foreign_writes s4.foreign_writes → (at : ℕ) (value : List ℕ) → s4.image at ≡ Some value
@@ -72,7 +72,7 @@ module _ (g : Layout) (n : ℕ) (p : Plan) {s0 s2 s4 : DeviceState} (layout : Is
       (t.taken.stood (still_4 still))
 
   -- so one of the slot's own cells was taken by somebody else
-  own : (number : ℕ) → IsPlanRule number → IsOfSlot n (reserved_by p) t.taken.put.at
+  own : (number : ℕ) → IsPlanRule number → IsOfNewSlot n (reserved_by p) t.taken.put.at
       → t.taken.put.blame ≡ Rule number → IsPlaceOf g number t.taken.put.at
       → (IsStill s0.foreign_writes s2.foreign_writes → s2.image t.taken.put.at ≡ None)
       → ((j : ℕ) (other : Put) → ingest_phases n p j other → other.at ≡ t.taken.put.at
@@ -122,7 +122,7 @@ module _ (g : Layout) (n : ℕ) (p : Plan) {s0 s2 s4 : DeviceState} (layout : Is
     here : journal_from p + a.k ≡ journal_at p.start (reserved_by p).length (length p.journal.now) + a.k
     here = omega arith
 
-    copied : Copies s4.image p.start (reserved_by p).length (length p.journal.now) a.k (target_of t.taken.put.value)
+    copied : CopiesIndexCell s4.image p.start (reserved_by p).length (length p.journal.now) a.k (target_of t.taken.put.value)
         (suits.entries a.k within).fit.copy.held
     copied =
         let h = suits.entries a.k within in

@@ -21,21 +21,21 @@ abbrev pub AreBlank : Image → Reservation → Type 0
 AreBlank image cells = (cell : ℕ) → IsOfCells cells cell → image cell ≡ None
 
 -- the cell is one of the slot's four, or of those that it reserves
-abbrev pub IsOfSlot : ℕ → Reservation → ℕ → Type 0
-IsOfSlot slot cells cell = ((reserve_at slot ≤ cell) × (cell ≤ spare_at slot)) ⊎ IsOfCells cells cell
+abbrev pub IsOfNewSlot : ℕ → Reservation → ℕ → Type 0
+IsOfNewSlot slot cells cell = ((reserve_at slot ≤ cell) × (cell ≤ spare_at slot)) ⊎ IsOfCells cells cell
 
 -- how a look at one cell may end, and why
-abbrev pub LookEnds : ℕ → ℕ → DeviceState → DeviceState → Result Unit Fault → Type 0
-LookEnds cell rule old new (Ok u) = (new.faults ≡ old.faults) × (IsTrue old.tells → old.image cell ≡ None)
-LookEnds cell rule old new (Err Failed) = Rose old.faults new.faults
-LookEnds cell rule old new (Err (Tampered e)) =
+abbrev pub CellLookEnds : ℕ → ℕ → DeviceState → DeviceState → Result Unit Fault → Type 0
+CellLookEnds cell rule old new (Ok u) = (new.faults ≡ old.faults) × (IsTrue old.tells → old.image cell ≡ None)
+CellLookEnds cell rule old new (Err Failed) = Rose old.faults new.faults
+CellLookEnds cell rule old new (Err (Tampered e)) =
     (e.rule ≡ rule) × (e.cell ≡ cell) × (IsTrue old.tells → new.image cell ≡ Some e.found)
 
 -- a look at a cell changes nothing
 pub record LooksAt (cell rule : ℕ) (old new : DeviceState) (result : Result Unit Fault) : Type 0 where
   pub called : Called old new
   pub quiet : IsStill old.foreign_writes new.foreign_writes → IsUnchanged old.image new.image
-  pub ends : LookEnds cell rule old new result
+  pub ends : CellLookEnds cell rule old new result
 
 -- how a look along cells may end, and why: the least written one is named
 abbrev pub AlongEnds : Reservation → DeviceState → DeviceState → Result Unit Fault → Type 0
@@ -65,13 +65,13 @@ pub record IsFirstFound (start : ℕ) (found : List (Option (List ℕ))) (e : Ev
   pub before : NothingFound place found
 
 -- how a look at what was found in a row of cells may end, and why: the least written one is named
-abbrev pub RowEnds : ℕ → List (Option (List ℕ)) → Result Unit Fault → Type 0
-RowEnds start found (Ok u) = NothingFound (length found) found
-RowEnds start found (Err Failed) = ⊥
-RowEnds start found (Err (Tampered e)) = IsFirstFound start found e
+abbrev pub RowLookEnds : ℕ → List (Option (List ℕ)) → Result Unit Fault → Type 0
+RowLookEnds start found (Ok u) = NothingFound (length found) found
+RowLookEnds start found (Err Failed) = ⊥
+RowLookEnds start found (Err (Tampered e)) = IsFirstFound start found e
 
 -- what a new slot has to find blank, besides its reserve cell
-pub record IsFree (image : Image) (slot : ℕ) (cells : Reservation) : Type 0 where
+pub record IsSlotFree (image : Image) (slot : ℕ) (cells : Reservation) : Type 0 where
   pub outcome : image (outcome_at slot) ≡ None
   pub done : image (done_at slot) ≡ None
   pub spare : image (spare_at slot) ≡ None
@@ -92,7 +92,7 @@ pub data IsFirstWritten (image : Image) (slot : ℕ) (cells : Reservation) (e : 
 -- how a look at the cells of a new slot may end, and why
 abbrev pub SlotLookEnds : ℕ → Reservation → DeviceState → DeviceState → Result Unit Fault → Type 0
 SlotLookEnds slot cells old new (Ok u) =
-    (new.faults ≡ old.faults) × (IsTrue old.tells → IsFree old.image slot cells)
+    (new.faults ≡ old.faults) × (IsTrue old.tells → IsSlotFree old.image slot cells)
 SlotLookEnds slot cells old new (Err Failed) = Rose old.faults new.faults
 SlotLookEnds slot cells old new (Err (Tampered e)) =
     IsTrue old.tells → IsFirstWritten old.image slot cells e × (new.image e.cell ≡ Some e.found)

@@ -13,7 +13,7 @@ use Rattle.plan_writer.specs.Planned.{INGEST_PHASES, IsStoredPut, PlansDocument,
 use Rattle.plan_writer.specs.declared.plan.Plan.{Plan}
 
 -- a plan that suits the volume, and a slot of it that is unused
-pub record IsPlannedFor (g : Layout) (n : ℕ) (p : Plan) (old : Image) : Type 0 where
+pub record IsPlanForSlot (g : Layout) (n : ℕ) (p : Plan) (old : Image) : Type 0 where
   pub layout : IsLayout g
   pub unused : IsUnused g old n
   pub suits : Suits g p
@@ -22,7 +22,7 @@ pub record IsPlannedFor (g : Layout) (n : ℕ) (p : Plan) (old : Image) : Type 0
 pub record IsLeftByPlan (g : Layout) (n : ℕ) (p : Plan) (image : Image) : Type 0 where
   pub old : DeviceState
   pub new : DeviceState
-  pub planned : IsPlannedFor g n p old.image
+  pub planned : IsPlanForSlot g n p old.image
   pub leaves : LeavesPhases (ingest_phases n p) INGEST_PHASES old new image
   pub alone : IsStill old.foreign_writes new.foreign_writes
 

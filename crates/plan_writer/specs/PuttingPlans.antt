@@ -15,7 +15,7 @@ use Rattle.worm_device.specs.State.{DeviceState}
 use Rattle.recovery_engine.specs.Putting.{ChangesBy, CrashesLeavePhases, IsInFirst}
 use Rattle.commit_record.specs.Licences.{IsLicensed}
 use Rattle.recovery_engine.specs.Entries.{target_of}
-use Rattle.plan_writer.specs.Blank.{AreBlank, IsOfSlot}
+use Rattle.plan_writer.specs.Blank.{AreBlank, IsOfNewSlot}
 use Rattle.plan_writer.specs.Planned.{INGEST_PHASES, PlansDocument, ingest_phases, reserved_by}
 use Rattle.plan_writer.specs.declared.plan.Plan.{Plan}
 
@@ -62,7 +62,7 @@ IsPlanRule number =
 -- out into them.)
 pub record IsFoundByPlan (n : ℕ) (p : Plan) (old entry new : DeviceState) (e : Evidence) : Type 0 where
   pub rule : IsPlanRule e.rule
-  pub own : IsOfSlot n (reserved_by p) e.cell
+  pub own : IsOfNewSlot n (reserved_by p) e.cell
   pub licensed : IsLicensed old new e
   pub at_entry : IsStill old.foreign_writes new.foreign_writes → AsksForBlank p entry.image
       → IsBroken entry.cells entry.image e.rule e.cell
@@ -72,8 +72,8 @@ pub record IsFoundByPlan (n : ℕ) (p : Plan) (old entry new : DeviceState) (e :
       → IsUnchanged entry.image new.image
 
 -- how putting a plan may end, and why: from before the volume was settled, and from the call's entry
-abbrev pub PlanEnds : Layout → Plan → ℕ → DeviceState → DeviceState → DeviceState → Result ℕ Fault → Type 0
-PlanEnds g p n old entry new (Ok slot) =
+abbrev pub PutPlanEnds : Layout → Plan → ℕ → DeviceState → DeviceState → DeviceState → Result ℕ Fault → Type 0
+PutPlanEnds g p n old entry new (Ok slot) =
     (slot ≡ n) × (IsTrue old.tells → IsCarriedOut g p n new.cells old.image entry.image new.sure)
-PlanEnds g p n old entry new (Err Failed) = Rose old.faults new.faults
-PlanEnds g p n old entry new (Err (Tampered e)) = IsTrue old.tells → IsFoundByPlan n p old entry new e
+PutPlanEnds g p n old entry new (Err Failed) = Rose old.faults new.faults
+PutPlanEnds g p n old entry new (Err (Tampered e)) = IsTrue old.tells → IsFoundByPlan n p old entry new e

@@ -1,6 +1,6 @@
 //! That the cells of a new slot are blank.
 ghost use Rattle.std.specs.Prelude.{◌≡◌, ◌<◌, ◌≤◌, ◌+◌, ◌^◌, length};
-ghost use Rattle.plan_writer.specs.Blank.{LooksAlong, LooksAt, LooksForSlot, RowEnds};
+ghost use Rattle.plan_writer.specs.Blank.{LooksAlong, LooksAt, LooksForSlot, RowLookEnds};
 ghost use Rattle.plan_writer.specs.declared.blank.TheConstants.{ROW_CELLS};
 
 use cell_types::{Cell, Fault, Geometry, breach};
@@ -71,7 +71,7 @@ fn look_at_row<D: Device>(device: &mut D, cells: Reservation) -> Result<(), Faul
 /// That nothing was found in a row of cells, of which this is the first.
 fn check_row(start: u32, row: &[Option<Cell>]) -> Result<(), Fault>
     requires { start + length row.now < 2 ^ 32 }
-    ensures { RowEnds start row.now result }
+    ensures { RowLookEnds start row.now result }
 {
     for place in 0..row.len() {
         if let Some(found) = row[place] {

@@ -3,7 +3,7 @@ ghost use Rattle.std.specs.Prelude.{◌≡◌, ◌<◌, IsOk};
 ghost use Rattle.worm_device.specs.State.{DeviceState};
 ghost use Rattle.recovery_engine.specs.Settling.{HasSettled, LiesInBounds};
 ghost use Rattle.plan_writer.specs.Planned.{Suits};
-ghost use Rattle.plan_writer.specs.PuttingPlans.{PlanEnds, PutsPlan};
+ghost use Rattle.plan_writer.specs.PuttingPlans.{PutPlanEnds, PutsPlan};
 
 use crate::blank::check_blank;
 use crate::plan::{Plan, carry_out};
@@ -27,7 +27,7 @@ pub fn put_planned<D: Device>(device: &mut D, ready: &Ready, plan: &Plan<'_>) ->
     ensures puts { PutsPlan ready.now.horizon plan.now (D.state device.old) (D.state device.new) }
     ensures unfailed { IsOk result → (D.state device.new).faults ≡ (D.state device.old).faults }
     ensures ends { (earlier : DeviceState) → HasSettled earlier (D.state device.old) ready.now →
-        PlanEnds ready.now.volume.geometry plan.now ready.now.horizon earlier (D.state device.old) (D.state device.new)
+        PutPlanEnds ready.now.volume.geometry plan.now ready.now.horizon earlier (D.state device.old) (D.state device.new)
         result }
 {
     let geometry = ready.volume.geometry;

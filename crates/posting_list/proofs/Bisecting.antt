@@ -13,7 +13,7 @@ use Rattle.jump_block.specs.declared.held_entry.Entry.{Entry}
 use Rattle.jump_index.specs.Searches.{FindsGeq}
 use Rattle.jump_block.proofs.OneBlock.{leads_wider}
 use Rattle.jump_index.proofs.Telling.{told}
-use Rattle.posting_list.specs.Owing.{IsOwed}
+use Rattle.posting_list.specs.Owing.{IsSlotOwed}
 use Rattle.posting_list.specs.Searches.{HasSlot, Probes, head_of, within}
 use Rattle.posting_list.specs.declared.reach.Reach.{Reach}
 use Rattle.posting_list.specs.declared.sought_term.SoughtTerm.{SoughtTerm}
@@ -33,7 +33,7 @@ probe_fault r list key old new fault less found =
 pub record HasSoFar (r : Reach) (term : SoughtTerm) (slot : ℕ) (old new : ViewState) (low high : ℕ) : Type 0 where
   pub viewed : Viewed old new
   pub most : high ≤ 256
-  pub left : (o : IsOwed r term old slot)
+  pub left : (o : IsSlotOwed r term old slot)
       → (t : OwedTags r term o.body) × (low ≤ t.i) × (t.i < high) × (high ≤ length t.tags)
 
 module _ (r : Reach) (term : SoughtTerm) (slot : ℕ) (old mid new : ViewState) (viewed : Viewed old mid) where
@@ -49,7 +49,7 @@ module _ (r : Reach) (term : SoughtTerm) (slot : ℕ) (old mid new : ViewState) 
 
   module _ (key k : ℕ) (is_key : key ≡ 256 * slot + k) where
     -- nothing stands under the key of this ordinal
-    pub none_there : ((o : IsOwed r term old slot) → (t : OwedTags r term o.body) × (k < length t.tags))
+    pub none_there : ((o : IsSlotOwed r term old slot) → (t : OwedTags r term o.body) × (k < length t.tags))
         → Probes r term.list key mid new (Ok None) → HasSlot r term slot old new (Ok false)
     none_there t_of probed = record {
       viewed = viewed_then viewed probed.viewed;
@@ -64,7 +64,7 @@ module _ (r : Reach) (term : SoughtTerm) (slot : ℕ) (old mid new : ViewState) 
     }
 
     -- what stands there is the posting of this ordinal
-    pub one_there : (e : Entry) → Probes r term.list key mid new (Ok (Some e)) → (o : IsOwed r term old slot)
+    pub one_there : (e : Entry) → Probes r term.list key mid new (Ok (Some e)) → (o : IsSlotOwed r term old slot)
         → (t : OwedTags r term o.body) → k < length t.tags
         → (e.last ≡ length t.tags - 1) × (slice_get t.tags k ≡ Some e.tag)
     one_there e probed o t less =

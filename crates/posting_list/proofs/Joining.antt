@@ -4,14 +4,14 @@ use Rattle.std.specs.Prelude.{slice_get}
 use Rattle.cell_types.specs.declared.refusal.Fault.{Fault}
 use Rattle.cell_types.specs.declared.refusal.Fault.TheVariants.{Tampered, Failed}
 use Rattle.worm_device.specs.Views.{ViewState, Viewed}
-use Rattle.zigzag_join.specs.Lists.{FaultEnds, HasEnds, Keeps, LandEnds}
+use Rattle.zigzag_join.specs.Lists.{ListsFaultEnds, HasEnds, Keeps, LandEnds}
 use Rattle.zigzag_join.specs.declared.lists.Landing.{Landing}
 use Rattle.jump_index.proofs.Telling.{told, told_before}
 use Rattle.cell_types.specs.Image.{Image}
 use Rattle.tamper_rules.proofs.Images.{same_image}
 use Rattle.worm_device.proofs.Resting.{rests_of}
 use Rattle.posting_list.specs.Naming.{FaultSays}
-use Rattle.posting_list.specs.Owing.{HasPosting, IsOwed, Owes}
+use Rattle.posting_list.specs.Owing.{HasPosting, IsSlotOwed, Owes}
 use Rattle.posting_list.specs.Searches.{HasSlot, NextSlot}
 use Rattle.posting_list.specs.States.{counted_lists, row_of, term_row}
 use Rattle.posting_list.specs.Terms.{TermEnds}
@@ -82,15 +82,15 @@ module _ (r : Reach) (terms : List SoughtTerm) (loan : ℕ) (s t : ViewState) (n
       (λ other counts. omega (arith, next, has, counts, reads))
 
   fault_ends : (fault : Fault) → FaultSays r s t fault
-      → FaultEnds (counted_lists r terms loan s n h) (counted_lists r terms loan t i j) fault
+      → ListsFaultEnds (counted_lists r terms loan s n h) (counted_lists r terms loan t i j) fault
   fault_ends Failed says = says
   fault_ends (Tampered e) says = says
 
   module _ (which : ℕ) (term : SoughtTerm) (there : slice_get terms which ≡ Some term) where
     -- the term of this number is the one that was asked for
-    owed_here : (slot : ℕ) → Owes r terms s which slot → IsOwed r term s slot
+    owed_here : (slot : ℕ) → Owes r terms s which slot → IsSlotOwed r term s slot
     owed_here slot o =
-        subst (λ (x : SoughtTerm). IsOwed r x s slot) (one_term terms which o.term term o.there there) o.owed
+        subst (λ (x : SoughtTerm). IsSlotOwed r x s slot) (one_term terms which o.term term o.there there) o.owed
 
     pub land_ends : (from : ℕ) (result : Result (Option Landing) Fault) → NextSlot r term from s t result
         → LandEnds which from (counted_lists r terms loan s n h) (counted_lists r terms loan t i j) result

@@ -11,10 +11,10 @@ use Rattle.volume_meaning.specs.Blocks.{PostingFields, Trail, Leads, arrived, on
 use Rattle.volume_meaning.specs.Keeping.{IsKept}
 use Rattle.volume_meaning.specs.Postings.{AreTags, HasTag, IsWordPosting}
 use Rattle.worm_device.specs.Views.{ViewState, Viewed}
-use Rattle.jump_index.specs.Searches.{HasTrail}
+use Rattle.jump_index.specs.Searches.{HasBoundedTrail}
 use Rattle.jump_index.proofs.LookingLater.{trail_then}
 use Rattle.jump_index.proofs.Telling.{told}
-use Rattle.posting_list.specs.Owing.{IsOwed, IsVouched, Owes}
+use Rattle.posting_list.specs.Owing.{IsSlotOwed, IsVouched, Owes}
 use Rattle.posting_list.specs.Searches.{head_of}
 use Rattle.posting_list.specs.declared.reach.Reach.{Reach}
 use Rattle.posting_list.specs.declared.sought_term.SoughtTerm.{SoughtTerm}
@@ -28,7 +28,7 @@ pub record OwedTags (r : Reach) (term : SoughtTerm) (body : List ℕ) : Type 0 w
   pub within : i < length tags
   pub there : slice_get tags i ≡ Some term.tag
 
-module _ (r : Reach) (term : SoughtTerm) (s : ViewState) (slot : ℕ) (o : IsOwed r term s slot) where
+module _ (r : Reach) (term : SoughtTerm) (s : ViewState) (slot : ℕ) (o : IsSlotOwed r term s slot) where
   pub owed_tags : OwedTags r term o.body
   owed_tags =
       let all = o.postings.each term.list o.list in
@@ -73,7 +73,7 @@ pub record HasOrdinal (r : Reach) (l slot : ℕ) (s : ViewState) (tags : List (L
   pub tag : List ℕ
   pub there : slice_get tags k ≡ Some tag
   pub at : ℕ
-  pub trail : HasTrail r.bounds s (head_of r l) at (posting_at slot tags k tag)
+  pub trail : HasBoundedTrail r.bounds s (head_of r l) at (posting_at slot tags k tag)
 
 some_there : (tags : List (List ℕ)) (k : ℕ) → k < length tags → (x : List ℕ) × (slice_get tags k ≡ Some x)
 some_there tags k less = ⊎_elim
@@ -83,7 +83,7 @@ some_there tags k less = ⊎_elim
 
 -- also over a row of calls
 pub ordinal_of : (r : Reach) (term : SoughtTerm) (slot : ℕ) (old mid : ViewState) → Viewed old mid
-    → (o : IsOwed r term old slot) → (t : OwedTags r term o.body) → (k : ℕ) → k < length t.tags
+    → (o : IsSlotOwed r term old slot) → (t : OwedTags r term o.body) → (k : ℕ) → k < length t.tags
     → HasOrdinal r term.list slot mid t.tags k
 ordinal_of r term slot old mid viewed o t k less =
     let x = some_there t.tags k less in
@@ -101,11 +101,11 @@ ordinal_of r term slot old mid viewed o t k less =
 pub record OwedTrail (r : Reach) (term : SoughtTerm) (s : ViewState) (slot : ℕ) : Type 0 where
   pub at : ℕ
   pub p : PostingFields
-  pub trail : HasTrail r.bounds s (head_of r term.list) at p
+  pub trail : HasBoundedTrail r.bounds s (head_of r term.list) at p
   pub from : 256 * slot ≤ p.key
   pub below : p.key < 256 * slot + 256
 
-pub owed_trail : (r : Reach) (term : SoughtTerm) (s : ViewState) (slot : ℕ) → IsOwed r term s slot
+pub owed_trail : (r : Reach) (term : SoughtTerm) (s : ViewState) (slot : ℕ) → IsSlotOwed r term s slot
     → OwedTrail r term s slot
 owed_trail r term s slot o =
     let t = owed_tags r term s slot o in
@@ -122,8 +122,8 @@ owed_trail r term s slot o =
     }
 
 -- what must not be passed must not be later
-pub owed_on : (r : Reach) (term : SoughtTerm) (slot : ℕ) (s t : ViewState) → Viewed s t → IsOwed r term s slot
-    → IsOwed r term t slot
+pub owed_on : (r : Reach) (term : SoughtTerm) (slot : ℕ) (s t : ViewState) → Viewed s t → IsSlotOwed r term s slot
+    → IsSlotOwed r term t slot
 owed_on r term slot s t viewed o = record {
   tells = told viewed o.tells;
   volume = subst (λ n. IsVolume n t.image r.volume.geometry) (sym viewed.cells) (volume_on viewed.image o.volume);

@@ -9,7 +9,7 @@ use Rattle.volume_meaning.proofs.Holding.{some_is}
 use Rattle.volume_meaning.specs.Blocks.{PostingFields, posting_record, InFront, at_the_start, behind}
 use Rattle.volume_meaning.proofs.Fronts.{one_place}
 use Rattle.jump_block.specs.Fronts.{HasKeyAt}
-use Rattle.jump_block.specs.Keeping.{AreKept}
+use Rattle.jump_block.specs.Keeping.{AreFrontsKept}
 use Rattle.jump_block.specs.Known.{IsKnown}
 use Rattle.jump_block.specs.declared.kept_fronts.KeptFronts.{KeptFronts}
 use Rattle.jump_block.specs.declared.known_front.KnownFront.{KnownFront}
@@ -17,7 +17,7 @@ use Rattle.worm_device.specs.Views.{ViewState}
 
 -- where the view tells its image, each front that is kept is known in it
 abbrev pub KeepsFronts : ViewState → KeptFronts → Type 0
-KeepsFronts s fronts = IsTrue s.base.tells → AreKept s.image fronts
+KeepsFronts s fronts = IsTrue s.base.tells → AreFrontsKept s.image fronts
 
 -- A holder carries a fact of which there is one proof at most. So it is of each that is part of this one.
 is_cell_prop : (at : ℕ) (p : PostingFields) (cell : List ℕ) → IsProp (IsRecordCell (posting_record p) at cell)
@@ -115,7 +115,7 @@ has_key_prop image block place key a b = one (one_place a.in_front b.in_front) a
 is_known_prop : (image : Image) (f : KnownFront) → IsProp (IsKnown image f)
 is_known_prop image f = Prim.hlevel (props, has_key_prop)
 
-are_kept_prop : (image : Image) (fronts : KeptFronts) → IsProp (AreKept image fronts)
+are_kept_prop : (image : Image) (fronts : KeptFronts) → IsProp (AreFrontsKept image fronts)
 are_kept_prop image fronts = Prim.hlevel (props, is_known_prop)
 
 pub keeps_fronts_prop : (s : ViewState) (fronts : KeptFronts) → IsProp (KeepsFronts s fronts)

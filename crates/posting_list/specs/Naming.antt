@@ -30,29 +30,29 @@ pub record IsReachOf (r : Reach) (image : Image) : Type 0 where
 
 -- the evidence is by a rule of lists and stands there, and where the bounds begin at the pool's start, in a place of
 -- its rule
-pub record IsNamed (r : Reach) (image : Image) (e : Evidence) : Type 0 where
+pub record IsListEvidence (r : Reach) (image : Image) (e : Evidence) : Type 0 where
   pub rule : IsListRule e.rule
   pub stands : image e.cell ≡ Some e.found
   pub place : r.bounds.pool ≡ pool_at r.volume.geometry → IsPlaceOf r.volume.geometry e.rule e.cell
 
 -- The evidence stands there, and where the volume is the one in cell 0, and this is how far the image is filled, its
 -- rule is broken there.
-pub record IsShown (r : Reach) (s : ViewState) (e : Evidence) : Type 0 where
+pub record IsShownEvidence (r : Reach) (s : ViewState) (e : Evidence) : Type 0 where
   pub stands : s.image e.cell ≡ Some e.found
   pub broken : IsVolume s.cells s.image r.volume.geometry → IsReachOf r s.image
       → IsBroken s.cells s.image e.rule e.cell
 
 -- the evidence may be named
 abbrev pub MayName : Reach → ViewState → Evidence → Type 0
-MayName r s e = IsTrue s.base.tells → IsNamed r s.image e
+MayName r s e = IsTrue s.base.tells → IsListEvidence r s.image e
 
 -- the evidence is shown
-abbrev pub Shows : Reach → ViewState → Evidence → Type 0
-Shows r s e = IsTrue s.base.tells → IsShown r s e
+abbrev pub ShowsListEvidence : Reach → ViewState → Evidence → Type 0
+ShowsListEvidence r s e = IsTrue s.base.tells → IsShownEvidence r s e
 
 -- Why there is no answer: a read failed, or this is evidence that may be named, and that is shown where nobody else
 -- wrote.
 abbrev pub FaultSays : Reach → ViewState → ViewState → Fault → Type 0
 FaultSays r old new Failed = Rose old.base.faults new.base.faults
 FaultSays r old new (Tampered e) =
-    MayName r new e × (IsStill old.base.foreign_writes new.base.foreign_writes → Shows r new e)
+    MayName r new e × (IsStill old.base.foreign_writes new.base.foreign_writes → ShowsListEvidence r new e)

@@ -13,7 +13,7 @@ use Rattle.posting_list.specs.declared.sought_term.SoughtTerm.{SoughtTerm}
 -- The term's list must not pass the slot: its document stands and has the term's tag, its postings exist, and those in
 -- the term's list all have trails from the list's first block. Where a view does not tell its image nothing is known
 -- to stand.
-pub record IsOwed (r : Reach) (term : SoughtTerm) (s : ViewState) (slot : ℕ) : Type 0 where
+pub record IsSlotOwed (r : Reach) (term : SoughtTerm) (s : ViewState) (slot : ℕ) : Type 0 where
   pub tells : IsTrue s.base.tells
   pub volume : IsVolume s.cells s.image r.volume.geometry
   pub list : term.list < r.volume.geometry.lists
@@ -51,7 +51,7 @@ pub record HasPosting (r : Reach) (term : SoughtTerm) (image : Image) (slot : �
 pub record Owes (r : Reach) (terms : List SoughtTerm) (s : ViewState) (which slot : ℕ) : Type 0 where
   pub term : SoughtTerm
   pub there : slice_get terms which ≡ Some term
-  pub owed : IsOwed r term s slot
+  pub owed : IsSlotOwed r term s slot
 
 -- where the view tells its image, the list of the term of this number vouches for the slot
 abbrev pub Vouches : Reach → List SoughtTerm → ViewState → ℕ → ℕ → Type 0

@@ -14,10 +14,10 @@ use Rattle.commit_record.specs.declared.slot.SlotState.{SlotState}
 use Rattle.commit_record.specs.declared.slot.SlotState.TheVariants.{Unused, Reserved, Abandoned, Committed, Done}
 use Rattle.jump_block.specs.Entries.{cell_of, posting_of}
 use Rattle.jump_block.specs.declared.held_entry.Entry.{Entry}
-use Rattle.jump_index.specs.Searches.{HasTrail, IsEntryBehind}
+use Rattle.jump_index.specs.Searches.{HasBoundedTrail, IsEntryBehind}
 use Rattle.jump_index.specs.declared.bounds.Bounds.{Bounds}
 use Rattle.posting_list.specs.Naming.{FaultSays}
-use Rattle.posting_list.specs.Owing.{HasPosting, IsOwed, IsVouched}
+use Rattle.posting_list.specs.Owing.{HasPosting, IsSlotOwed, IsVouched}
 use Rattle.posting_list.specs.declared.reach.Reach.{Reach}
 use Rattle.posting_list.specs.declared.sought_term.SoughtTerm.{SoughtTerm}
 use Rattle.zigzag_join.specs.declared.lists.Landing.{Landing}
@@ -65,10 +65,10 @@ abbrev pub NextSlotEnds : Reach → SoughtTerm → ℕ → ViewState → ViewSta
 NextSlotEnds r term from old new (Ok (Some n)) =
     (from ≤ n.slot) × (n.slot < MAX_SLOTS) × (n.slot < r.horizon)
     × (IsTrue old.base.tells → IsDoneSlot r.volume.geometry new.image n.slot)
-    × ((slot : ℕ) → IsOwed r term old slot → from ≤ slot → n.slot ≤ slot)
+    × ((slot : ℕ) → IsSlotOwed r term old slot → from ≤ slot → n.slot ≤ slot)
     × (IsTrue old.base.tells → HasPosting r term new.image n.slot)
     × (IsTrue n.vouched → IsTrue old.base.tells → IsVouched r term new.image n.slot)
-NextSlotEnds r term from old new (Ok None) = (slot : ℕ) → IsOwed r term old slot → from ≤ slot → ⊥
+NextSlotEnds r term from old new (Ok None) = (slot : ℕ) → IsSlotOwed r term old slot → from ≤ slot → ⊥
 NextSlotEnds r term from old new (Err fault) = FaultSays r old new fault
 
 pub record NextSlot (r : Reach) (term : SoughtTerm) (from : ℕ) (old new : ViewState)
@@ -81,9 +81,11 @@ abbrev pub ProbeEnds : Reach → ℕ → ℕ → ViewState → ViewState → Res
 ProbeEnds r list key old new (Ok (Some e)) =
     (e.key ≡ key)
     × (IsTrue old.base.tells → IsEntryBehind (within r) new.image (head_of r list) e
-    × ((at : ℕ) (p : PostingFields) → HasTrail r.bounds old (head_of r list) at p → p.key ≡ key → p ≡ posting_of e))
+    × ((at : ℕ) (p : PostingFields) → HasBoundedTrail r.bounds old (head_of r list) at p → p.key ≡ key
+    → p ≡ posting_of e))
 ProbeEnds r list key old new (Ok None) =
-    IsTrue old.base.tells → (at : ℕ) (p : PostingFields) → HasTrail r.bounds old (head_of r list) at p → p.key ≡ key → ⊥
+    IsTrue old.base.tells → (at : ℕ) (p : PostingFields) → HasBoundedTrail r.bounds old (head_of r list) at p
+    → p.key ≡ key → ⊥
 ProbeEnds r list key old new (Err fault) = FaultSays r old new fault
 
 pub record Probes (r : Reach) (list key : ℕ) (old new : ViewState) (result : Result (Option Entry) Fault) : Type 0 where
@@ -93,7 +95,7 @@ pub record Probes (r : Reach) (list key : ℕ) (old new : ViewState) (result : R
 -- whether a term's list has a slot
 abbrev pub HasSlotEnds : Reach → SoughtTerm → ℕ → ViewState → ViewState → Result Bool Fault → Type 0
 HasSlotEnds r term slot old new (Ok there) =
-    (IsOwed r term old slot → IsTrue there)
+    (IsSlotOwed r term old slot → IsTrue there)
     × (IsTrue there → IsTrue old.base.tells → IsVouched r term new.image slot)
 HasSlotEnds r term slot old new (Err fault) = FaultSays r old new fault
 

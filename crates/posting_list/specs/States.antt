@@ -2,7 +2,7 @@
 use Rattle.std.specs.Prelude.{ℕ, List, [], ◌∷◌, length, map}
 use Rattle.worm_device.specs.Views.{ViewState}
 use Rattle.zigzag_join.specs.Lists.{ListsState}
-use Rattle.posting_list.specs.Naming.{MayName, Shows}
+use Rattle.posting_list.specs.Naming.{MayName, ShowsListEvidence}
 use Rattle.posting_list.specs.Owing.{Lands, Owes, Vouches}
 use Rattle.posting_list.specs.declared.reach.Reach.{Reach}
 use Rattle.posting_list.specs.declared.sought_term.SoughtTerm.{SoughtTerm}
@@ -29,7 +29,7 @@ counted_lists r terms loan s next_asks has_asks = record {
   owes = Owes r terms s;
   vouches = Vouches r terms s;
   may_name = MayName r s;
-  shows = Shows r s;
+  shows = ShowsListEvidence r s;
   lands = Lands r terms s;
   next_asks = next_asks;
   has_asks = has_asks;

@@ -6,14 +6,14 @@ use Rattle.std.specs.Map.{lookup}
 use Rattle.lru.specs.LruCache.{LruCache, lru_cache, promoted, put_entries}
 use Rattle.lru.proofs.CallerLemmas.{Contains-lookup, Contains-promoted, Contains-put_entries}
 use Rattle.worm_device.specs.Views.{ViewState, Viewed}
-use Rattle.read_cache.specs.Keeping.{HasNoOther, HasOneMore, KeepsCells}
+use Rattle.read_cache.specs.Keeping.{HasNoOther, KeepsOneMore, KeepsCells}
 
 -- a look-up changes the order alone
 pub no_other : (kept : List (ℕ × List ℕ)) (at : ℕ) → HasNoOther kept (promoted (nat_eq at) kept)
 no_other kept at cell value there = Contains-promoted (nat_eq at) kept (cell, value) there
 
 -- a put may push others out
-pub one_more : (c : LruCache ℕ (List ℕ)) (at : ℕ) (value : List ℕ) → HasOneMore at value c.entries (put_entries nat_eq c at value)
+pub one_more : (c : LruCache ℕ (List ℕ)) (at : ℕ) (value : List ℕ) → KeepsOneMore at value c.entries (put_entries nat_eq c at value)
 one_more c at value cell found there = ⊎_elim
     (λ was. inl was)
     (λ put. inr (⊎_elim
@@ -30,7 +30,7 @@ module _ (s t : ViewState) (old new : List (ℕ × List ℕ)) where
 
   -- a cell that was read is shown
   pub keeps_more : (at : ℕ) (value : List ℕ) → Viewed s t → KeepsCells s old
-      → (IsTrue s.base.tells → Some value ≡ t.image at) → HasOneMore at value old new → KeepsCells t new
+      → (IsTrue s.base.tells → Some value ≡ t.image at) → KeepsOneMore at value old new → KeepsCells t new
   keeps_more at value viewed kept read more tells cell found there = ⊎_elim
       (λ was. viewed.image.keeps cell found (kept (subst IsTrue viewed.called.tells tells) cell found was))
       (λ (is : (cell ≡ at) × (found ≡ value)).
@@ -49,8 +49,8 @@ kept_stands s kept at cell known found tells =
 -- a put, with memory or without
 pub after_put : {E : Type 0} (c now : LruCache ℕ (List ℕ)) (at : ℕ) (value : List ℕ) (result : Result (Option (List ℕ)) E)
     → OnOk result (now ≡ lru_cache (put_entries nat_eq c at value) c.cap) → OnErr result (now ≡ c)
-    → HasOneMore at value c.entries now.entries
+    → KeepsOneMore at value c.entries now.entries
 after_put c now at value (Ok was) put none =
-    subst (λ (d : LruCache ℕ (List ℕ)). HasOneMore at value c.entries d.entries) (sym put) (one_more c at value)
+    subst (λ (d : LruCache ℕ (List ℕ)). KeepsOneMore at value c.entries d.entries) (sym put) (one_more c at value)
 after_put c now at value (Err failed) put none =
-    subst (λ (d : LruCache ℕ (List ℕ)). HasOneMore at value c.entries d.entries) (sym none) (λ cell found there. inl there)
+    subst (λ (d : LruCache ℕ (List ℕ)). KeepsOneMore at value c.entries d.entries) (sym none) (λ cell found there. inl there)

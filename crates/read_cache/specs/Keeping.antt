@@ -27,8 +27,8 @@ abbrev pub HasNoOther : List (ℕ × List ℕ) → List (ℕ × List ℕ) → Ty
 HasNoOther old new = (at : ℕ) (cell : List ℕ) → Contains new (at, cell) → Contains old (at, cell)
 
 -- nothing is kept that was not, but this cell under this number
-abbrev pub HasOneMore : ℕ → List ℕ → List (ℕ × List ℕ) → List (ℕ × List ℕ) → Type 0
-HasOneMore at value old new =
+abbrev pub KeepsOneMore : ℕ → List ℕ → List (ℕ × List ℕ) → List (ℕ × List ℕ) → Type 0
+KeepsOneMore at value old new =
     (cell : ℕ) (found : List ℕ) → Contains new (cell, found)
     → Contains old (cell, found) ⊎ ((cell ≡ at) × (found ≡ value))
 

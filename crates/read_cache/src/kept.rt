@@ -1,7 +1,7 @@
 //! Kept cells, by their numbers.
 ghost use Rattle.std.specs.Prelude.{◌≡◌, nat_eq};
 ghost use Rattle.std.specs.Map.{lookup};
-ghost use Rattle.read_cache.specs.Keeping.{HasNoOther, HasOneMore};
+ghost use Rattle.read_cache.specs.Keeping.{HasNoOther, KeepsOneMore};
 
 use cell_types::Cell;
 use lru::LruCache;
@@ -17,7 +17,7 @@ pub(crate) fn kept_cell(cells: &mut LruCache<u32, Cell>, at: u32) -> Option<Cell
 /// Keeps a cell under its number. Where there is no room for it, the one that was used longest ago makes room; where
 /// there is no memory, nothing is kept anew.
 pub(crate) fn keep(cells: &mut LruCache<u32, Cell>, at: u32, cell: Cell)
-    ensures { HasOneMore at cell cells.old.entries cells.new.entries }
+    ensures { KeepsOneMore at cell cells.old.entries cells.new.entries }
 {
     // A cell that is not kept is read below when it is asked for again.
     let _ = cells.put(at, cell);

@@ -18,7 +18,7 @@ use Rattle.worm_device.proofs.Resting.{rests_of}
 use Rattle.recovery_engine.specs.Settling.{HasSettled, SettlesFirst, settled, settling}
 use Rattle.recovery_engine.specs.declared.settling.Ready.{Ready}
 use Rattle.identifier_lookup.specs.Walks.{IsFirstOnPath}
-use Rattle.record_query.specs.LookingUp.{IsFirst, IsLookedUp}
+use Rattle.record_query.specs.LookingUp.{IsFirstOfPath, IsLookedUp}
 
 -- a call that ended with this refusal, as one that answers something else
 pub comes_to : {X Y : Type 0} {old new : DeviceState} (refusal : Refusal) → SettlesFirst X old new (Err refusal)
@@ -48,7 +48,7 @@ module _ {mid new : DeviceState} (viewed : Viewed (seen_directly mid 0) (seen_di
   comes_later (settling other is settles) = absurd (cc is)
   comes_later (settled r has) = settled r (has_settled has)
 
-  first_later : {id body : List ℕ} {n : ℕ} → IsFirst id body n mid → IsFirst id body n new
+  first_later : {id body : List ℕ} {n : ℕ} → IsFirstOfPath id body n mid → IsFirstOfPath id body n new
   first_later {id} {body} {n} f = record {
     layout = f.layout;
     volume = subst (λ (c : ℕ). IsVolume c new.image f.layout) (sym viewed.called.cells)

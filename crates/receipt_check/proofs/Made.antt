@@ -22,7 +22,7 @@ use Rattle.worm_device.proofs.Counting.{still_second}
 use Rattle.worm_device.proofs.Elapsing.{called_then}
 use Rattle.worm_device.proofs.Resting.{viewed_then}
 use Rattle.commit_record.specs.Licences.{IsLicensed}
-use Rattle.record_query.specs.LookingUp.{IsFirst, IsLookUpRule, IsLookedUp, LookUpEnds, LooksUp, NamesLookUpRule}
+use Rattle.record_query.specs.LookingUp.{IsFirstOfPath, IsLookUpRule, IsLookedUp, LookUpEnds, LooksUp, NamesLookUpRule}
 use Rattle.record_query.specs.declared.found.Found.{Found}
 use Rattle.kept_documents.specs.Kept.{KeepsNone, document_of}
 use Rattle.kept_documents.proofs.Opening.{the_same}
@@ -31,7 +31,7 @@ use Rattle.receipt_text.specs.declared.receipt.Receipt.{Receipt}
 use Rattle.receipt_check.specs.Judging.{IsSlotReceipt, LimitEnds}
 use Rattle.receipt_check.specs.Making.{IsReceiptOf, IsUnkept, MakeEnds, MakesReceipt, NamesMakingRule}
 use Rattle.receipt_check.specs.Naming.{NameEnds, NamesUnkept}
-use Rattle.receipt_check.specs.Unheard.{unheard}
+use Rattle.receipt_check.specs.Discard.{discard}
 use Rattle.receipt_check.proofs.Later.{comes_later, comes_to, kept_before, looked_up_later}
 use Rattle.receipt_check.proofs.PathTrails.{first_trail}
 
@@ -51,7 +51,7 @@ not_of_trails number (inr (inr (inr (inr (inr (inr a)))))) is = omega (arith, a,
 
 -- nothing was found
 module _ (id : List ℕ) (old new : DeviceState) where
-  unlooked_ends : (refusal : Refusal) → LookUpEnds id old new unheard unheard (Err refusal)
+  unlooked_ends : (refusal : Refusal) → LookUpEnds id old new discard discard (Err refusal)
       → NamesLookUpRule old (Err refusal) → MakeEnds id old new (Err refusal)
   unlooked_ends Absent ends rule = ends.1
   unlooked_ends (Tampered e) ends rule = λ tells.
@@ -67,7 +67,7 @@ module _ (id : List ℕ) (old new : DeviceState) where
   unlooked_rule (Tampered e) rule = λ tells. inl (rule tells)
   unlooked_rule refusal rule = tt
 
-  pub unlooked : (refusal : Refusal) → LooksUp id old new unheard unheard (Err refusal)
+  pub unlooked : (refusal : Refusal) → LooksUp id old new discard discard (Err refusal)
       → MakesReceipt id old new (Err refusal)
   unlooked refusal looks = record {
     called = looks.called;
@@ -77,7 +77,7 @@ module _ (id : List ℕ) (old new : DeviceState) where
   }
 
 -- a document whose postings have their trails is kept where it is the first on its path
-kept_by_trails : {id body : List ℕ} {n : ℕ} {new : DeviceState} (f : IsFirst id body n new)
+kept_by_trails : {id body : List ℕ} {n : ℕ} {new : DeviceState} (f : IsFirstOfPath id body n new)
     → TrailRule f.layout new.image n body → Kept new.cells new.image (document_of n id body ∷ [])
 kept_by_trails {id} {body} {n} {new} f rule = record {
   layout = f.layout;
@@ -95,7 +95,7 @@ kept_by_trails {id} {body} {n} {new} f rule = record {
 }
 
 -- slot n was found
-module _ (id : List ℕ) (found : Found) (old mid new : DeviceState) (looks : LooksUp id old mid unheard unheard (Ok found))
+module _ (id : List ℕ) (found : Found) (old mid new : DeviceState) (looks : LooksUp id old mid discard discard (Ok found))
     (viewed : Viewed (seen_directly mid 0) (seen_directly new 0)) where
   told_mid : IsTrue old.tells → IsTrue mid.tells
   told_mid tells = subst IsTrue (sym looks.called.tells) tells
@@ -164,7 +164,7 @@ module _ (id : List ℕ) (found : Found) (old mid new : DeviceState) (looks : Lo
 
 -- slot n was found, and is not kept
 module _ (id : List ℕ) (found : Found) (old mid asked new : DeviceState)
-    (looks : LooksUp id old mid unheard unheard (Ok found))
+    (looks : LooksUp id old mid discard discard (Ok found))
     (viewed : Viewed (seen_directly mid 0) (seen_directly new 0)) where
   abbrev n : ℕ
   n = found.slot
@@ -239,7 +239,7 @@ module _ (id : List ℕ) (found : Found) (old mid asked new : DeviceState)
 
 -- slot n was found, and is not kept
 pub named : (id : List ℕ) (found : Found) (old mid asked new : DeviceState)
-    → LooksUp id old mid unheard unheard (Ok found) → Viewed (seen_directly mid 0) (seen_directly asked 0)
+    → LooksUp id old mid discard discard (Ok found) → Viewed (seen_directly mid 0) (seen_directly asked 0)
     → (IsTrue mid.tells → KeepsNone (seen_directly mid 0) found.slot id) → (refusal : Refusal)
     → NamesUnkept found.slot asked new refusal → MakesReceipt id old new (Err refusal)
 named id found old mid asked new looks before none refusal names =

@@ -20,7 +20,7 @@ abbrev pub ShowsDocument : ℕ → Receipt → List ℕ → Type 0
 ShowsDocument cells r body = Kept cells (listed_image r.cells) (document_of r.slot r.identifier body ∷ [])
 
 -- Cell c is listed with a value that does not stand there, and each listed cell below it stands.
-pub record IsFirstToDiffer (listed : List (ℕ × List ℕ)) (device : DeviceState) (c : ℕ) : Type 0 where
+pub record IsFirstCellToDiffer (listed : List (ℕ × List ℕ)) (device : DeviceState) (c : ℕ) : Type 0 where
   pub value : List ℕ
   pub is : listed_image listed c ≡ Some value
   pub differs : device.image c ≢ Some value
@@ -29,7 +29,7 @@ pub record IsFirstToDiffer (listed : List (ℕ × List ℕ)) (device : DeviceSta
 -- how comparing the listed cells with the device may end
 abbrev pub ListedEnds : List (ℕ × List ℕ) → DeviceState → DeviceState → Result Unit CheckRefusal → Type 0
 ListedEnds listed old new (Ok u) = IsTrue old.tells → Extends (listed_image listed) new.image
-ListedEnds listed old new (Err (CellDiffers c)) = IsTrue old.tells → IsFirstToDiffer listed new c
+ListedEnds listed old new (Err (CellDiffers c)) = IsTrue old.tells → IsFirstCellToDiffer listed new c
 ListedEnds listed old new (Err DeviceFault) = Rose old.faults new.faults
 ListedEnds listed old new (Err NoMemory) = ⊥
 ListedEnds listed old new (Err (NotShown n)) = ⊥
@@ -61,7 +61,7 @@ pub record IsAccepted (r : Receipt) (old new : DeviceState) (done : Checked) : T
 -- How a check may end, and why.
 abbrev pub CheckAnswer : Receipt → DeviceState → DeviceState → Result Checked CheckRefusal → Type 0
 CheckAnswer r old new (Ok done) = IsAccepted r old new done
-CheckAnswer r old new (Err (CellDiffers c)) = IsTrue old.tells → IsFirstToDiffer r.cells new c
+CheckAnswer r old new (Err (CellDiffers c)) = IsTrue old.tells → IsFirstCellToDiffer r.cells new c
 CheckAnswer r old new (Err (NotShown n)) =
     (n ≡ r.slot) × ((body : List ℕ) → ShowsDocument old.cells r body → ⊥)
     × (IsTrue old.tells → Extends (listed_image r.cells) new.image)

@@ -6,5 +6,5 @@ pub mod Making
 pub mod MakingLaws
 pub mod Naming
 pub mod Recording
-pub mod Unheard
+pub mod Discard
 pub mod Viewing

@@ -1,5 +1,5 @@
 //! The look-up of the document, of which the body goes nowhere.
-ghost use Rattle.receipt_check.specs.Unheard.{LooksUpUnheard};
+ghost use Rattle.receipt_check.specs.Discard.{LooksUpDiscarding};
 
 use cell_types::Refusal;
 use host_ports::Sink;
@@ -8,12 +8,12 @@ use worm_device::{Device, Failed};
 
 /// A sink that takes each piece and keeps none.
 #[derive(Drop)]
-pub(crate) struct Unheard;
+pub(crate) struct Discard;
 
-impl Sink for Unheard {
-    ghost use Rattle.receipt_check.specs.Unheard.{unheard};
+impl Sink for Discard {
+    ghost use Rattle.receipt_check.specs.Discard.{discard};
 
-    ghost state = { λ sink. unheard };
+    ghost state = { λ sink. discard };
 
     fn put(&mut self, piece: &[u8]) -> Result<usize, Failed> {
         Ok(piece.len())
@@ -22,7 +22,7 @@ impl Sink for Unheard {
 
 /// Looks the document up. It is checked whole.
 pub(crate) fn look_up<D: Device>(device: &mut D, id: &[u8]) -> Result<Found, Refusal>
-    ensures { LooksUpUnheard id.now (D.state device.old) (D.state device.new) result }
+    ensures { LooksUpDiscarding id.now (D.state device.old) (D.state device.new) result }
 {
-    lookup_into(device, id, &mut Unheard)
+    lookup_into(device, id, &mut Discard)
 }

@@ -1,7 +1,7 @@
 -- A text spells one receipt, and has one first line that breaks the form.
 use Rattle.std.proofs.Common.{◌≡◌, ◌<◌, ◌^◌, inl, inr, ℕ, List, [], ◌∷◌, ◌++◌, append_assoc, append-nil, drop, length, sym, ap, subst, arith, ◌∙◌}
 use Rattle.std.proofs.lemmas.Bool.{cases_eq, cases_lt}
-use Rattle.receipt_text.specs.Form.{Begins, IsFirstBadLine, IsReceiptOn, TextsAreOne, head_line, receipt_lines, text_of_lines}
+use Rattle.receipt_text.specs.Form.{BeginsReceipt, IsFirstBadLine, IsReceiptOn, TextsAreOne, head_line, receipt_lines, text_of_lines}
 use Rattle.receipt_text.specs.declared.receipt.Receipt.{Receipt}
 use Rattle.receipt_text.proofs.ReceiptLines.{cells_once, head_once, receipt_is_lines}
 use Rattle.receipt_text.proofs.TextLines.{AreLines, goes_on, lines_before, nothing_next, same_lines}
@@ -59,7 +59,7 @@ texts_are_one cells r s small one two same =
 
 -- a receipt that begins with more lines begins with these
 pub begins_before : (cells : ℕ) (before : List (List ℕ)) (line : List ℕ) (more : List (List ℕ))
-    → Begins cells (before ++ (line ∷ more)) → Begins cells (before ++ (line ∷ []))
+    → BeginsReceipt cells (before ++ (line ∷ more)) → BeginsReceipt cells (before ++ (line ∷ []))
 begins_before cells before line more begins = record {
   receipt = begins.receipt;
   is = begins.is;
@@ -69,7 +69,7 @@ begins_before cells before line more begins = record {
 }
 
 -- the lines that a receipt begins with are lines
-pub begun_are_lines : (cells : ℕ) (before : List (List ℕ)) → cells < 2 ^ 32 → Begins cells before → AreLines before
+pub begun_are_lines : (cells : ℕ) (before : List (List ℕ)) → cells < 2 ^ 32 → BeginsReceipt cells before → AreLines before
 begun_are_lines cells before small begins =
     lines_before before begins.rest (subst AreLines begins.same (receipt_is_lines cells begins.receipt small begins.is))
 
@@ -80,7 +80,7 @@ not_later cells text i j small one other less =
     let on = goes_on one.before other.before one.rest other.rest (begun_are_lines cells one.before small one.begins)
     (begun_are_lines cells other.before small other.begins) (sym one.splits ∙ other.splits) less in
     one.breaks on.line on.behind on.next
-    (begins_before cells one.before on.line on.more (subst (Begins cells) on.lines other.begins))
+    (begins_before cells one.before on.line on.more (subst (BeginsReceipt cells) on.lines other.begins))
 
 pub bad_is_one : (cells : ℕ) (text : List ℕ) (i j : ℕ) → cells < 2 ^ 32 → IsFirstBadLine cells text i
     → IsFirstBadLine cells text j → i ≡ j

@@ -5,7 +5,7 @@ use Rattle.std.specs.Ordering.{nat_cmp}
 use Rattle.cell_types.specs.Bytes.{IsCell}
 use Rattle.receipt_text.specs.Form.{cell_line, end_line, text_of_lines}
 use Rattle.receipt_text.specs.Listed.{AreListedFrom}
-use Rattle.receipt_text.specs.Reading.{IsListing, IsStuck, Lacks, ReadSoFar, next_of}
+use Rattle.receipt_text.specs.Reading.{IsListing, IsStuck, Lacks, CellsReadSoFar, next_of}
 use Rattle.receipt_text.specs.declared.reading.Listing.{Listing}
 use Rattle.receipt_text.specs.declared.receipt.TheConstants.{MAX_RECEIPT_CELLS}
 use Rattle.receipt_text.proofs.Cutting.{cut_once}
@@ -14,7 +14,7 @@ use Rattle.receipt_text.proofs.ReceiptLines.{cell_is_line, end_is_line}
 use Rattle.receipt_text.proofs.TextLines.{text_append}
 
 -- no cell is read at the beginning
-pub nothing_read : (size : ℕ) (text : List ℕ) → ReadSoFar size text 0 0 [] text
+pub nothing_read : (size : ℕ) (text : List ℕ) → CellsReadSoFar size text 0 0 [] text
 nothing_read size text = record { counted = refl; behind = refl; listed = tt; room = omega arith; splits = refl }
 
 -- ---- one cell more
@@ -50,11 +50,11 @@ text_more cells cell behind =
     ∙ ap (λ (t : List ℕ). text_of_lines (map cell_line cells) ++ t) (append_assoc (cell_line cell) (10 ∷ []) behind)
 
 pub read_more : (size : ℕ) (text : List ℕ) (count next at : ℕ) (value : List ℕ) (cells new : List (ℕ × List ℕ))
-    (rest front behind : List ℕ) → ReadSoFar size text count next cells rest → rest ≡ front ++ (10 ∷ behind)
+    (rest front behind : List ℕ) → CellsReadSoFar size text count next cells rest → rest ≡ front ++ (10 ∷ behind)
     → front ≡ cell_line (at, value) → next ≤ at → at < size → IsCell value
-    → new ≡ insert_entry nat_cmp cells at value → ReadSoFar size text (count + 1) (at + 1) new behind
+    → new ≡ insert_entry nat_cmp cells at value → CellsReadSoFar size text (count + 1) (at + 1) new behind
 read_more size text count next at value cells new rest front behind so_far cut line past below is put =
-    subst (λ (l : List (ℕ × List ℕ)). ReadSoFar size text (count + 1) (at + 1) l behind) (sym whole) (record {
+    subst (λ (l : List (ℕ × List ℕ)). CellsReadSoFar size text (count + 1) (at + 1) l behind) (sym whole) (record {
       counted = (let many = length-append cells ((at, value) ∷ []) in omega (arith, many, so_far.counted));
       behind = next_more 0 at value cells;
       listed = listed_more size 0 at value cells tight (omega arith) below is;
@@ -74,15 +74,15 @@ read_more size text count next at value cells new rest front behind so_far cut l
 
 -- as many cells were read as may be
 pub read_most : (size : ℕ) (text : List ℕ) (count next : ℕ) (cells : List (ℕ × List ℕ)) (rest : List ℕ)
-    → ReadSoFar size text count next cells rest → count ≤ MAX_RECEIPT_CELLS → MAX_RECEIPT_CELLS ≤ count
-    → ReadSoFar size text MAX_RECEIPT_CELLS next cells rest
+    → CellsReadSoFar size text count next cells rest → count ≤ MAX_RECEIPT_CELLS → MAX_RECEIPT_CELLS ≤ count
+    → CellsReadSoFar size text MAX_RECEIPT_CELLS next cells rest
 read_most size text count next cells rest so_far most full =
-    subst (λ (n : ℕ). ReadSoFar size text n next cells rest)
+    subst (λ (n : ℕ). CellsReadSoFar size text n next cells rest)
     (let same : count ≡ MAX_RECEIPT_CELLS = omega (arith, most, full) in same) so_far
 
 -- the line of the end was read
 pub all_read : (size : ℕ) (text : List ℕ) (next : ℕ) (listing : Listing) (rest front : List ℕ)
-    → ReadSoFar size text listing.count next listing.cells rest → rest ≡ front ++ (10 ∷ listing.behind.now)
+    → CellsReadSoFar size text listing.count next listing.cells rest → rest ≡ front ++ (10 ∷ listing.behind.now)
     → front ≡ end_line listing.count → listing.count ≤ MAX_RECEIPT_CELLS → IsListing size text listing
 all_read size text next listing rest front so_far cut line most = record {
   count = so_far.counted;
@@ -95,7 +95,7 @@ all_read size text next listing rest front so_far cut line most = record {
 -- ---- stuck
 
 module _ (size : ℕ) (text : List ℕ) (count next : ℕ) (cells : List (ℕ × List ℕ)) (rest : List ℕ) (small : size < 2 ^ 32)
-    (so_far : ReadSoFar size text count next cells rest) (most : count ≤ MAX_RECEIPT_CELLS) where
+    (so_far : CellsReadSoFar size text count next cells rest) (most : count ≤ MAX_RECEIPT_CELLS) where
   -- no line is left
   pub stuck_without_line : ((front behind : List ℕ) → rest ≢ front ++ (10 ∷ behind)) → IsStuck size text (count + 2)
   stuck_without_line never = record {

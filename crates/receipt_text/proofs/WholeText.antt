@@ -4,9 +4,9 @@ use Rattle.std.proofs.lemmas.Bool.{cases_eq, cases_lt, eqb-true}
 use Rattle.std.proofs.lemmas.List.{length-map}
 use Rattle.cell_types.specs.declared.geometry.TheConstants.{MAX_SLOTS}
 use Rattle.volume_meaning.specs.Documents.{IsIdentifier}
-use Rattle.receipt_text.specs.Form.{Begins, IsFirstBadLine, IsReceiptOn, cell_line, end_line, head_line, receipt_lines, text_of_lines, text_of_receipt}
+use Rattle.receipt_text.specs.Form.{BeginsReceipt, IsFirstBadLine, IsReceiptOn, cell_line, end_line, head_line, receipt_lines, text_of_lines, text_of_receipt}
 use Rattle.receipt_text.specs.Listed.{AreListed}
-use Rattle.receipt_text.specs.Reading.{IsListing, IsStuck, Lacks, ListingEnds, ReadEnds}
+use Rattle.receipt_text.specs.Reading.{IsListing, IsStuck, Lacks, ListingEnds, ReadReceiptEnds}
 use Rattle.receipt_text.specs.declared.reading.Listing.{Listing}
 use Rattle.receipt_text.specs.declared.receipt.Receipt.{Receipt}
 use Rattle.receipt_text.specs.declared.receipt.ReceiptFault.{ReceiptFault}
@@ -25,8 +25,8 @@ is_empty (x ∷ xs) h = absurd (let some = eqb-true (length (x ∷ xs)) 0 h in o
 -- ---- a text whose lines no receipt begins with is none
 
 module _ (cells : ℕ) (text : List ℕ) (before : List (List ℕ)) (rest : List ℕ) (small : cells < 2 ^ 32)
-    (begins : Begins cells before) (splits : text ≡ text_of_lines before ++ rest)
-    (breaks : (line behind : List ℕ) → rest ≡ line ++ (10 ∷ behind) → Begins cells (before ++ (line ∷ [])) → ⊥)
+    (begins : BeginsReceipt cells before) (splits : text ≡ text_of_lines before ++ rest)
+    (breaks : (line behind : List ℕ) → rest ≡ line ++ (10 ∷ behind) → BeginsReceipt cells (before ++ (line ∷ [])) → ⊥)
     (whole : (r : Receipt) → IsReceiptOn cells r → receipt_lines r ≡ before → rest ≢ []) where
   goes_past : (r : Receipt) → IsReceiptOn cells r → GoesOn before (receipt_lines r) rest → ⊥
   goes_past r is on = breaks on.line on.behind on.next (record {
@@ -75,7 +75,7 @@ is_a = record { some = omega arith; most = omega arith; each = each } where
   each (suc i) below = absurd (omega arith)
 
 -- each device has a receipt
-some_receipt : (cells : ℕ) → Begins cells []
+some_receipt : (cells : ℕ) → BeginsReceipt cells []
 some_receipt cells = record {
   receipt = receipt_with 0 (97 ∷ []) [];
   is = record { slot = omega arith; identifier = is_a; listed = tt; most = omega arith };
@@ -97,7 +97,7 @@ pub no_head : (cells : ℕ) (text front rest : List ℕ) → cells < 2 ^ 32 → 
 no_head cells text front rest small cut lacks never =
     first_bad cells text [] text small (some_receipt cells) refl breaks (λ r is same. absurd (cc same)) 1 refl
   where
-    breaks : (line behind : List ℕ) → text ≡ line ++ (10 ∷ behind) → Begins cells ([] ++ (line ∷ [])) → ⊥
+    breaks : (line behind : List ℕ) → text ≡ line ++ (10 ∷ behind) → BeginsReceipt cells ([] ++ (line ∷ [])) → ⊥
     breaks line behind same begins =
         let r = begins.receipt in
         let is : head_line r.slot r.identifier ≡ line = cc begins.same in
@@ -149,7 +149,7 @@ module _ (cells : ℕ) (text front tail : List ℕ) (slot : ℕ) (id : List ℕ)
       lines : List (List ℕ)
       lines = head_line slot id ∷ map cell_line stuck.cells
 
-      begins : Begins cells lines
+      begins : BeginsReceipt cells lines
       begins = record {
         receipt = receipt_with slot id stuck.cells;
         is = receipt_is stuck.cells stuck.listed stuck.most;
@@ -170,7 +170,7 @@ module _ (cells : ℕ) (text front tail : List ℕ) (slot : ℕ) (id : List ℕ)
           stuck.no_cell at value behind (omega (arith, longer, is.most)) past low cell
           (next ∙ ap (λ (l : List ℕ). l ++ (10 ∷ behind)) listed)
 
-      breaks : (line behind : List ℕ) → stuck.rest ≡ line ++ (10 ∷ behind) → Begins cells (lines ++ (line ∷ [])) → ⊥
+      breaks : (line behind : List ℕ) → stuck.rest ≡ line ++ (10 ∷ behind) → BeginsReceipt cells (lines ++ (line ∷ [])) → ⊥
       breaks line behind next begun =
           let r = begun.receipt in
           never line behind r begun.is next
@@ -182,7 +182,7 @@ module _ (cells : ℕ) (text front tail : List ℕ) (slot : ℕ) (id : List ℕ)
           never_whole cells 0 (length r.cells) stuck.cells r.cells small stuck.listed (ap rest_of same)
 
   -- reading them was given up
-  pub fault_ends : (fault : ReceiptFault) → ListingEnds cells tail (Err fault) → ReadEnds cells text (Err fault)
+  pub fault_ends : (fault : ReceiptFault) → ListingEnds cells tail (Err fault) → ReadReceiptEnds cells text (Err fault)
   fault_ends (BadReceipt i) stuck = bad_line i stuck
   fault_ends NoMemory wanting = wanting
 
@@ -231,11 +231,11 @@ module _ (cells : ℕ) (text front tail : List ℕ) (slot : ℕ) (id : List ℕ)
       on_device : IsReceiptOn cells r
       on_device = receipt_is listing.cells is.listed (omega (arith, is.count, is.most))
 
-      begins : Begins cells (receipt_lines r)
+      begins : BeginsReceipt cells (receipt_lines r)
       begins = record { receipt = r; is = on_device; rest = []; same = sym (append-nil (receipt_lines r)) }
 
       breaks : (line behind : List ℕ) → listing.behind.now ≡ line ++ (10 ∷ behind)
-          → Begins cells (receipt_lines r ++ (line ∷ [])) → ⊥
+          → BeginsReceipt cells (receipt_lines r ++ (line ∷ [])) → ⊥
       breaks line behind next begun =
           let s = begun.receipt in
           let behind_end : map cell_line s.cells ++ (end_line (length s.cells) ∷ [])

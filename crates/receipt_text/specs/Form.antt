@@ -49,7 +49,7 @@ pub record IsReceiptOn (cells : ℕ) (r : Receipt) : Type 0 where
   pub most : length r.cells ≤ MAX_RECEIPT_CELLS
 
 -- a receipt of a device of so many cells begins with these lines
-pub record Begins (cells : ℕ) (lines : List (List ℕ)) : Type 0 where
+pub record BeginsReceipt (cells : ℕ) (lines : List (List ℕ)) : Type 0 where
   pub receipt : Receipt
   pub is : IsReceiptOn cells receipt
   pub rest : List (List ℕ)
@@ -63,8 +63,9 @@ pub record IsFirstBadLine (cells : ℕ) (text : List ℕ) (i : ℕ) : Type 0 whe
   pub rest : List ℕ
   pub number : i ≡ length before + 1
   pub splits : text ≡ text_of_lines before ++ rest
-  pub begins : Begins cells before
-  pub breaks : (line behind : List ℕ) → rest ≡ line ++ (codes "\n" ++ behind) → Begins cells (before ++ (line ∷ [])) → ⊥
+  pub begins : BeginsReceipt cells before
+  pub breaks : (line behind : List ℕ) → rest ≡ line ++ (codes "\n" ++ behind)
+      → BeginsReceipt cells (before ++ (line ∷ [])) → ⊥
   pub none : (r : Receipt) → IsReceiptOn cells r → text ≢ text_of_receipt r
 
 -- what a fault of a receipt's text is to a command

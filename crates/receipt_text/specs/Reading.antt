@@ -19,7 +19,8 @@ next_of from [] = from
 next_of from (cell ∷ cells) = next_of (cell.0 + 1) cells
 
 -- So many cells were read, and their lines are what stood before the rest of the text.
-pub record ReadSoFar (size : ℕ) (text : List ℕ) (count next : ℕ) (cells : List (ℕ × List ℕ)) (rest : List ℕ) : Type 0
+pub record CellsReadSoFar (size : ℕ) (text : List ℕ) (count next : ℕ) (cells : List (ℕ × List ℕ))
+    (rest : List ℕ) : Type 0
   where
     pub counted : length cells ≡ count
     pub behind : next_of 0 cells ≡ next
@@ -55,7 +56,7 @@ ListingEnds size text (Err NoMemory) = ⊤
 
 -- How reading a receipt may end, and why: it is the one that the text spells, or the first line that breaks the form is
 -- named. Memory may be wanting.
-abbrev pub ReadEnds : ℕ → List ℕ → Result Receipt ReceiptFault → Type 0
-ReadEnds cells text (Ok r) = IsReceiptOn cells r × (text ≡ text_of_receipt r)
-ReadEnds cells text (Err (BadReceipt i)) = IsFirstBadLine cells text i
-ReadEnds cells text (Err NoMemory) = ⊤
+abbrev pub ReadReceiptEnds : ℕ → List ℕ → Result Receipt ReceiptFault → Type 0
+ReadReceiptEnds cells text (Ok r) = IsReceiptOn cells r × (text ≡ text_of_receipt r)
+ReadReceiptEnds cells text (Err (BadReceipt i)) = IsFirstBadLine cells text i
+ReadReceiptEnds cells text (Err NoMemory) = ⊤

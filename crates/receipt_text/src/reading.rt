@@ -1,5 +1,5 @@
 //! A text, read as a receipt.
-ghost use Rattle.receipt_text.specs.Reading.{ListingEnds, ReadEnds};
+ghost use Rattle.receipt_text.specs.Reading.{ListingEnds, ReadReceiptEnds};
 
 use crate::lines::{cell_within, cut_at, head_of, is_end_line};
 use crate::{ListedCells, MAX_RECEIPT_CELLS, Receipt, ReceiptFault};
@@ -18,7 +18,7 @@ pub(crate) struct Listing<'a> {
 
 /// The receipt that the text spells, each of its addresses below the number of cells.
 pub fn read_receipt(alloc: Global, text: &[u8], cells: u32) -> Result<Receipt, ReceiptFault>
-    ensures { ReadEnds cells text.now result }
+    ensures { ReadReceiptEnds cells text.now result }
 {
     let Some(first) = cut_at(b'\n', text) else {
         return Err(ReceiptFault::BadReceipt(1));

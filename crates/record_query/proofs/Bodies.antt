@@ -11,7 +11,7 @@ use Rattle.word_reader.specs.Matching.{FinishEnds, HasPushed}
 use Rattle.word_reader.specs.declared.matcher.Matcher.{Matcher}
 use Rattle.append_file.specs.declared.piece.ContentFault.{ContentFault}
 use Rattle.append_file.specs.declared.piece.ContentFault.TheVariants.{Broken, ReadFault}
-use Rattle.document_store.specs.Heads.{FaultEnds, IsHead, id_of}
+use Rattle.document_store.specs.Heads.{HeadFaultEnds, IsHead, id_of}
 use Rattle.document_store.specs.declared.head.Head.{Head}
 use Rattle.record_query.specs.Matching.{HasSought, KeepsTerms, PushNextEnds, Pushes, SeekFails, seek_fault_of}
 use Rattle.record_query.specs.declared.matching.SeekFault.{SeekFault}
@@ -79,7 +79,7 @@ unpushed old now new start bytes p q r h m n o k seeks.NoMemory head so_far less
 
 -- what stands before the body was not read
 pub head_unread : (start bytes : ℕ) (old new : ViewState) (fault : ContentFault) → Viewed old new
-    → FaultEnds start bytes old new fault → SeekFails start bytes old new (seek_fault_of fault)
+    → HeadFaultEnds start bytes old new fault → SeekFails start bytes old new (seek_fault_of fault)
 head_unread start bytes old new Broken viewed ends = (ends.0, λ tells. spelled_none viewed.image (ends.1 tells))
 head_unread start bytes old new ReadFault viewed ends = ends
 

@@ -89,7 +89,7 @@ RiseFrom from [] = ⊤
 RiseFrom from (slot ∷ slots) = (from ≤ slot) × RiseFrom (slot + 1) slots
 
 rise_from : (from : ℕ) (slots : List ℕ) → ((i : ℕ) → i < length slots → from ≤ slice_index slots i)
-    → gathering.Rise slots → RiseFrom from slots
+    → gathering.GatheredRise slots → RiseFrom from slots
 rise_from from [] past rise = tt
 rise_from from (slot ∷ slots) past rise = (
   past zero (omega arith),
@@ -207,7 +207,7 @@ all_cost IsSuch IsNearby cost (e ∷ ds) from rise nearby low_cost cells count h
 pub common_cost : (IsSuch IsNearby : Document → Type 0) (cost : ℕ → ℕ) (ds : List Document) → Rise 0 ds
     → ((d : Document) → Contains ds d → IsSuch d → IsNearby d)
     → ((d : Document) → Contains ds d → cost d.slot ≤ 4 * stored_cells d + 1) → (cells count : ℕ)
-    → HaveCells IsSuch ds cells → Count IsNearby ds count → (slots : List ℕ) → gathering.Rise slots
+    → HaveCells IsSuch ds cells → Count IsNearby ds count → (slots : List ℕ) → gathering.GatheredRise slots
     → ((i : ℕ) → i < length slots → IsSlotOf IsSuch ds (slice_index slots i))
     → row_cost cost slots (length slots) ≤ 4 * cells + count
 common_cost IsSuch IsNearby cost ds rise nearby low_cost cells count have counts slots rises each =

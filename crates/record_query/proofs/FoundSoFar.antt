@@ -12,11 +12,11 @@ use Rattle.worm_device.specs.State.{DeviceState}
 use Rattle.worm_device.specs.Views.{Viewed, seen_directly}
 use Rattle.worm_device.proofs.Resting.{viewed_self, viewed_then}
 use Rattle.word_reader.specs.declared.matcher.Matcher.{Matcher}
-use Rattle.zigzag_join.specs.Gathering.{Rise}
+use Rattle.zigzag_join.specs.Gathering.{GatheredRise}
 use Rattle.document_store.specs.Looks.{ReadsOnce}
 use Rattle.document_store.specs.Standing.{HoldsDocument}
 use Rattle.record_query.specs.Among.{AmongEnds, IsSlotCost, FoundAmong, IsMatchAmong, ReadsEach, added, row_cost}
-use Rattle.record_query.specs.Finding.{Rises}
+use Rattle.record_query.specs.Finding.{MatchesRise}
 use Rattle.record_query.specs.Matching.{HasNoMatch, IsMatchIn, IsMatcherOf, KeepsTerms, SlotEnds}
 use Rattle.record_query.specs.declared.found.Match.{Match}
 use Rattle.document_store.proofs.Holding.{held_is_one, held_on}
@@ -26,9 +26,9 @@ use Rattle.worm_device.proofs.Images.{extends_then}
 use Rattle.record_query.proofs.Costs.{cost_more, cost_within}
 
 -- slots rise on, where the last one is behind the others
-rises_on : (matches : List Match) (last : Match) (from u : ℕ) → Rises from matches
+rises_on : (matches : List Match) (last : Match) (from u : ℕ) → MatchesRise from matches
     → ((found : Match) → Contains matches found → found.slot < u) → u ≤ last.slot → from ≤ last.slot
-    → Rises from (matches ++ last ∷ [])
+    → MatchesRise from (matches ++ last ∷ [])
 rises_on [] last from u rises below after start = (start, tt)
 rises_on (first ∷ rest) last from u rises below after start = (
   rises.0,
@@ -84,7 +84,7 @@ module _ (g : Layout) (slots : List ℕ) (k : ℕ) (terms : List (List ℕ)) (ol
   }
 
   -- one more had a match
-  found_one_more : Rise slots → k < length slots → (one : Match) → IsMatchIn g new (slice_index slots k) terms one
+  found_one_more : GatheredRise slots → k < length slots → (one : Match) → IsMatchIn g new (slice_index slots k) terms one
       → FoundAmong g slots (k + 1) terms old new (matches ++ one ∷ [])
   found_one_more rise inside one is = record {
     all = λ i id body less was has. ⊎_elim
@@ -179,7 +179,7 @@ module _ (g : Layout) (slots : List ℕ) (k : ℕ) (old now new : DeviceState) (
       (done_on (extends_then so_far.viewed.image viewed.image) c.done) in
       omega (arith, so_far.reads tells cost each, read, c.most, cost_more cost slots k inside)
 
-  module _ (rise : Rise slots) (inside : k < length slots)
+  module _ (rise : GatheredRise slots) (inside : k < length slots)
       (once : ReadsOnce g (slice_index slots k) (seen_directly now 0) (seen_directly new 0)) where
     more : (terms : List (List ℕ)) → IsMatcherOf (rule_of g.version) terms m → (found : Option Match)
         → SlotEnds g (slice_index slots k) terms (seen_directly now 0) (seen_directly new 0) (Ok found)

@@ -8,7 +8,7 @@ use Rattle.worm_device.specs.State.{DeviceState}
 use Rattle.worm_device.specs.Views.{ViewState, seen_directly}
 use Rattle.zigzag_join.specs.Joins.{AllOwe}
 use Rattle.posting_list.specs.Joins.{TermsGather, TermsGatherReads}
-use Rattle.posting_list.specs.Naming.{IsShown}
+use Rattle.posting_list.specs.Naming.{IsShownEvidence}
 use Rattle.posting_list.specs.Owing.{Owes}
 use Rattle.posting_list.specs.States.{lists_over}
 use Rattle.posting_list.specs.declared.reach.Reach.{Reach}
@@ -37,7 +37,7 @@ module _ (r : Reach) (terms : List SoughtTerm) (old new : DeviceState) (a b : �
       → AllOwe (lists_over r terms 0 (seen_directly old a)) slot
   all_owe slot owe which less = owes which slot (owe which less)
 
-  shown : (e : Evidence) → IsShown r (seen_directly new b) e → IsShown r (seen_directly new 0) e
+  shown : (e : Evidence) → IsShownEvidence r (seen_directly new b) e → IsShownEvidence r (seen_directly new 0) e
   shown e s = record { stands = s.stands; broken = s.broken }
 
   pub gathers_by_any : (result : Result (Vec ℕ) Refusal)

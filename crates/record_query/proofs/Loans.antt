@@ -9,8 +9,8 @@ use Rattle.host_ports.specs.Sinks.{SinkState}
 use Rattle.worm_device.specs.State.{DeviceState}
 use Rattle.worm_device.specs.Views.{Viewed, seen_directly}
 use Rattle.worm_device.proofs.Resting.{rested_since, rests_of}
-use Rattle.commit_record.specs.States.{AsksBelow, Shows}
-use Rattle.document_store.specs.Looks.{BodyEnds, GotPart, LookFails, Names, ReadsOnce, ReadsTwice, of_document, of_state}
+use Rattle.commit_record.specs.States.{AsksSlotBelow, ShowsBroken}
+use Rattle.document_store.specs.Looks.{BodyEnds, GotPart, LookFails, NamesDocument, ReadsOnce, ReadsTwice, of_document, of_state}
 use Rattle.document_store.specs.declared.body.BodyFault.{BodyFault}
 use Rattle.document_store.specs.declared.body.BodyFault.TheVariants.{ReadFault, SinkFault, Tampered}
 use Rattle.cell_types.specs.declared.refusal.Fault.TheVariants as faults
@@ -43,16 +43,16 @@ module _ (old new : DeviceState) (a b : ℕ) where
       }
 
   module _ (g : Layout) (n : ℕ) where
-    shows : {image : Image} {e : Evidence} → Shows g (seen_directly old a) (seen_directly new b) image e
-        → Shows g (seen_directly old 0) (seen_directly new 0) image e
+    shows : {image : Image} {e : Evidence} → ShowsBroken g (seen_directly old a) (seen_directly new b) image e
+        → ShowsBroken g (seen_directly old 0) (seen_directly new 0) image e
     shows s = record { stands = s.stands; broken = s.broken }
 
-    asks : AsksBelow n (seen_directly old 0) → AsksBelow n (seen_directly old a)
+    asks : AsksSlotBelow n (seen_directly old 0) → AsksSlotBelow n (seen_directly old a)
     asks q =
         record { reserve = q.reserve; outcome = q.outcome; done = q.done; spare = q.spare; fresh = q.fresh }
 
-    names : {e : Evidence} → Names g n (seen_directly old a) (seen_directly new b) e
-        → Names g n (seen_directly old 0) (seen_directly new 0) e
+    names : {e : Evidence} → NamesDocument g n (seen_directly old a) (seen_directly new b) e
+        → NamesDocument g n (seen_directly old 0) (seen_directly new 0) e
     names (of_state out) =
         of_state (record { seen = out.seen; shown = shows out.shown; below = λ q. shows (out.below (asks q)) })
     names (of_document broken) = of_document broken

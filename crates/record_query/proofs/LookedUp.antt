@@ -30,7 +30,7 @@ use Rattle.document_store.specs.declared.body.BodyFault.{BodyFault}
 use Rattle.document_store.specs.declared.body.BodyFault.TheVariants as bodies
 use Rattle.document_store.proofs.Holding.{held_is_done, held_is_one, held_on, held_stands}
 use Rattle.identifier_lookup.specs.Costs.{WalkCosts}
-use Rattle.identifier_lookup.specs.Walks.{HasTrail, IsFirstOnPath, IsFound, IsLicensed, NoneHasTrail}
+use Rattle.identifier_lookup.specs.Walks.{HasIdentifierTrail, IsFirstOnPath, IsFound, IsPathLicensed, NoneHasTrail}
 use Rattle.identifier_lookup.specs.declared.answers.Walk.TheVariants as walks
 use Rattle.identifier_lookup.proofs.Licence.{names_licensed}
 use Rattle.hash_tree.specs.declared.level.Level.{Level}
@@ -70,7 +70,7 @@ module _ (id : List ℕ) (old new : DeviceState) (sink : SinkState) where
 
 -- a kept document with the identifier has a hash trail
 kept_has_trail : {g : Layout} {cells : ℕ} {image : Image} {d : Document} (id : List ℕ) → d.id ≡ id
-    → IsKept cells image g d → HasTrail g cells image id d.slot
+    → IsKept cells image g d → HasIdentifierTrail g cells image id d.slot
 kept_has_trail {g} {cells} {image} {d} id same kept = record {
   body = d.body;
   stands = subst (λ (i : List ℕ). Stands cells image d.slot i d.body) same kept.stands;
@@ -271,7 +271,7 @@ module _ (id : List ℕ) (r : Ready) (old settled mid : DeviceState) (s : Settle
           → BodyEnds g n (seen_directly mid 0) (seen_directly new 0) from to (Err fault)
           → LooksUp id old new from to (Err (refusal_of_body fault))
       look_up_unput (bodies.Tampered e) twice put =
-          let named : IsTrue old.tells → IsLicensed g r.horizon r.edge (seen_directly mid 0) (seen_directly new 0) e =
+          let named : IsTrue old.tells → IsPathLicensed g r.horizon r.edge (seen_directly mid 0) (seen_directly new 0) e =
           λ tells. names_licensed g r.horizon r.edge n (seen_directly mid 0) (seen_directly new 0) e viewed
           (put.0.2 (told_mid tells)) in
           come_to twice (Err (Tampered e)) (

@@ -21,7 +21,7 @@ use Rattle.tamper_rules.proofs.Settled.{some_edge, some_horizon}
 use Rattle.ingest_laws.specs.TreeShapes.{IsWellRooted}
 use Rattle.ingest_laws.proofs.SettledShapes.{settled_rooted}
 use Rattle.ingest_laws.proofs.TreeShapes.{one_level}
-use Rattle.identifier_lookup.specs.Costs.{AreCellsOf, Comparison, Fall, HasDocumentCells, HaveMates, IsComparison, Mate, cells_in, cells_of_document, mate_cells}
+use Rattle.identifier_lookup.specs.Costs.{AreDocumentCells, Comparison, Fall, HasDocumentCells, HaveMates, IsComparison, Mate, cells_in, cells_of_document, mate_cells}
 use Rattle.identifier_lookup.proofs.Licence.{half_byte}
 
 -- one of a list with one more
@@ -100,7 +100,7 @@ node_on id (nodes.IsOnPath.under v node u above is rest less child from to) =
 
 -- a document that stands in a slot has the cells that the slot states
 same_cells : {g : Layout} {image : Image} {n cells : ℕ} {id body : List ℕ} → Stands g.cells image n id body
-    → AreCellsOf g image n cells → cells ≤ cells_for (length (stored_bytes id body))
+    → AreDocumentCells g image n cells → cells ≤ cells_for (length (stored_bytes id body))
 same_cells {g} {image} {n} {cells} {id} {body} stands are = ⊎_elim
     (λ (none : cells ≡ 0). omega (arith, none))
     (λ (some : HasDocumentCells g image n cells).

@@ -30,7 +30,7 @@ use Rattle.posting_list.specs.States.{lists_over}
 use Rattle.posting_list.specs.Terms.{sought_of}
 use Rattle.posting_list.specs.declared.sought_term.SoughtTerm.{SoughtTerm}
 use Rattle.posting_list.proofs.Evidence.{state_rule}
-use Rattle.document_store.specs.Looks.{Names, of_document, of_state}
+use Rattle.document_store.specs.Looks.{NamesDocument, of_document, of_state}
 use Rattle.document_store.specs.Standing.{HoldsDocument}
 use Rattle.document_store.proofs.Holding.{held_on, held_stands, stands_held}
 use Rattle.identifier_lookup.proofs.Licence.{names_licensed}
@@ -278,7 +278,7 @@ module _ (owed : KeptAreOwed) (terms : List (List ℕ)) (r : Ready) (old settled
         → AmongEnds r.volume.geometry slots.items terms mid new result → NamesFindRule old result
     rule_of_end (Ok matches) ends = tt
     rule_of_end (Err (Tampered e)) ends = λ tells. named (ends.refuses.2 (told tells)) where
-      named : Names r.volume.geometry ends.n (seen_directly mid 0) (seen_directly new 0) e → IsFindRule e.rule
+      named : NamesDocument r.volume.geometry ends.n (seen_directly mid 0) (seen_directly new 0) e → IsFindRule e.rule
       named (of_state out) = inr (inl (state_rule out.seen))
       named (of_document broken) = inr (inr broken.rule)
     rule_of_end (Err refusal) ends = tt

@@ -12,7 +12,7 @@ use Rattle.volume_meaning.specs.Slots.{IsDone, cells_for}
 use Rattle.commit_record.specs.States.{stamp_cells}
 use Rattle.document_store.specs.Looks.{LookRefuses, ReadsOnce}
 use Rattle.document_store.specs.Standing.{HoldsDocument}
-use Rattle.record_query.specs.Finding.{HasMatch, Rises}
+use Rattle.record_query.specs.Finding.{HasMatch, MatchesRise}
 use Rattle.record_query.specs.Matching.{IsMatchIn}
 use Rattle.record_query.specs.declared.found.Match.{Match}
 
@@ -36,7 +36,7 @@ pub record FoundAmong (g : Layout) (slots : List ℕ) (k : ℕ) (terms : List (L
   pub all : (i : ℕ) (id body : List ℕ) → i < k → HoldsDocument g before (slice_index slots i) id body
       → Matches (rule_of g.version) body terms → HasMatch matches (slice_index slots i) id body
   pub only : (found : Match) → Contains matches found → IsMatchAmong g after slots k terms found
-  pub rise : Rises 0 matches
+  pub rise : MatchesRise 0 matches
 
 -- a look at some slot was refused
 pub record RefusesSlot (g : Layout) (old new : DeviceState) (refusal : Refusal) : Type 0 where

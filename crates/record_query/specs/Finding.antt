@@ -44,9 +44,9 @@ pub record IsMatch (cells : ℕ) (image : Image) (terms : List (List ℕ)) (foun
   pub has : HasTerms cells image body terms
 
 -- the slots of the matches rise, from this one on
-abbrev pub Rises : ℕ → List Match → Type 0
-Rises from [] = ⊤
-Rises from (found ∷ matches) = (from ≤ found.slot) × Rises (found.slot + 1) matches
+abbrev pub MatchesRise : ℕ → List Match → Type 0
+MatchesRise from [] = ⊤
+MatchesRise from (found ∷ matches) = (from ≤ found.slot) × MatchesRise (found.slot + 1) matches
 
 -- each document of this list that has the terms, by the rule of words of this volume, has its match
 abbrev pub FindsAllOf : ℕ → Image → List (List ℕ) → List Match → List Document → Type 0
@@ -62,7 +62,7 @@ pub record Finds (terms : List (List ℕ)) (old new : DeviceState) (matches : Li
       → (documents : List Document) → Kept new.cells new.image documents
       → FindsAllOf new.cells new.image terms matches documents
   pub only : (found : Match) → Contains matches found → IsMatch new.cells new.image terms found
-  pub rise : Rises 0 matches
+  pub rise : MatchesRise 0 matches
 
 -- how a search may end, and why
 abbrev pub FindEnds : List (List ℕ) → DeviceState → DeviceState → Result (Vec Match) Refusal → Type 0

@@ -22,7 +22,7 @@ use Rattle.identifier_lookup.specs.Walks.{IsBlankIn, IsFirstOnPath, IsPassedUpTo
 use Rattle.record_query.specs.declared.found.Found.{Found}
 
 -- slot n stands with this identifier and body, and is the first on the identifier's path: each bucket above is passed
-pub record IsFirst (id body : List ℕ) (n : ℕ) (new : DeviceState) : Type 0 where
+pub record IsFirstOfPath (id body : List ℕ) (n : ℕ) (new : DeviceState) : Type 0 where
   pub layout : Layout
   pub volume : IsVolume new.cells new.image layout
   pub stands : Stands new.cells new.image n id body
@@ -35,7 +35,7 @@ IsThatOf id body n documents = (d : Document) → Contains documents d → d.id 
 -- The document was looked up: it stands, the first on its path; and where a document that was kept at entry has the
 -- identifier, it is that one; so it is, where nobody else wrote, of those that are kept at exit.
 pub record IsLookedUp (id body : List ℕ) (n : ℕ) (old new : DeviceState) : Type 0 where
-  pub first : IsFirst id body n new
+  pub first : IsFirstOfPath id body n new
   pub before : (documents : List Document) → Kept old.cells old.image documents → IsThatOf id body n documents
   pub alone : IsStill old.foreign_writes new.foreign_writes
       → (documents : List Document) → Kept new.cells new.image documents → IsThatOf id body n documents

@@ -14,7 +14,7 @@ use Rattle.append_file.specs.Reading.{HasBroken, HasRead}
 use Rattle.append_file.specs.declared.position.Position.{Position}
 use Rattle.word_reader.specs.Matching.{HasPushed, PushEnds}
 use Rattle.word_reader.specs.declared.matcher.Matcher.{Matcher}
-use Rattle.document_store.specs.Heads.{HasBody, IsWhole, SpellsNone}
+use Rattle.document_store.specs.Heads.{HasBody, IsWholePart, SpellsNone}
 use Rattle.document_store.specs.Looks.{LookRefuses}
 use Rattle.document_store.specs.Standing.{HoldsDocument}
 use Rattle.document_store.specs.declared.head.Head.{Head}
@@ -74,10 +74,10 @@ PushNextEnds v w p q m n (Err seeks.ReadFault) = Rose v.base.faults w.base.fault
 PushNextEnds v w p q m n (Err seeks.NoMemory) = w.base.faults ≡ v.base.faults
 
 -- how reading the body behind a head with a matcher may end, and why
-abbrev pub MatchEnds : ℕ → ℕ → Head → ViewState → ViewState → Matcher → Result Bool SeekFault → Type 0
-MatchEnds start bytes h old new m (Ok matched) =
+abbrev pub MatchBodyEnds : ℕ → ℕ → Head → ViewState → ViewState → Matcher → Result Bool SeekFault → Type 0
+MatchBodyEnds start bytes h old new m (Ok matched) =
     (new.base.faults ≡ old.base.faults) × HasSought new start bytes h m matched
-MatchEnds start bytes h old new m (Err fault) = SeekFails start bytes old new fault
+MatchBodyEnds start bytes h old new m (Err fault) = SeekFails start bytes old new fault
 
 -- a document was read that has the terms of a matcher
 pub record ReadMatch (v : ViewState) (start bytes : ℕ) (m : Matcher) (h : Head) : Type 0 where
@@ -88,7 +88,7 @@ pub record ReadMatch (v : ViewState) (start bytes : ℕ) (m : Matcher) (h : Head
 pub record ReadOther (v : ViewState) (start bytes : ℕ) (m : Matcher) : Type 0 where
   pub id : List ℕ
   pub body : List ℕ
-  pub whole : IsWhole v start bytes id body
+  pub whole : IsWholePart v start bytes id body
   pub differs : (rule : WordRule) (terms : List (List ℕ)) → IsMatcherOf rule terms m → Matches rule body terms → ⊥
 
 -- How reading a document while the terms of a matcher are sought may end, and why. It answers the head of one that has

@@ -2,7 +2,7 @@
 ghost use Rattle.std.specs.Prelude.{◌≡◌, ◌<◌, ◌≤◌, ℕ, List, IfOk, length};
 ghost use Rattle.volume_meaning.specs.Words.{rule_of};
 ghost use Rattle.worm_device.specs.Views.{Viewed, seen_directly};
-ghost use Rattle.zigzag_join.specs.Gathering.{Rise};
+ghost use Rattle.zigzag_join.specs.Gathering.{GatheredRise};
 ghost use Rattle.record_query.specs.Among.{AmongEnds, LooksOnce, ReadsEach, added};
 ghost use Rattle.record_query.specs.Finding.{Searches};
 ghost use Rattle.record_query.specs.Matching.{IsMatcherOf, KeepsTerms, SlotEnds};
@@ -55,7 +55,7 @@ fn find_among<D: Device>(
     slots: &[u32],
     matcher: &mut Matcher,
 ) -> Result<Vec<Match>, Refusal>
-    requires rise { Rise slots.now }
+    requires rise { GatheredRise slots.now }
     requires size { volume.now.geometry.cells ≤ (D.state device.old).cells }
     ensures viewed { Viewed (seen_directly (D.state device.old) 0) (seen_directly (D.state device.new) 0) }
     ensures reads { ReadsEach volume.now.geometry slots.now (D.state device.old) (D.state device.new) }

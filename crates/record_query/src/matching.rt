@@ -8,7 +8,7 @@ ghost use Rattle.append_file.specs.Reading.{IsPosition};
 ghost use Rattle.word_reader.specs.Matching.{HasPushed};
 ghost use Rattle.document_store.specs.Heads.{IsHead};
 ghost use Rattle.document_store.specs.Looks.{IsPartOf, IsStated, ReadsOnce};
-ghost use Rattle.record_query.specs.Matching.{IsMatcherOf, KeepsTerms, MatchEnds, PushNextEnds, SeekEnds, SlotEnds, seek_fault_of};
+ghost use Rattle.record_query.specs.Matching.{IsMatcherOf, KeepsTerms, MatchBodyEnds, PushNextEnds, SeekEnds, SlotEnds, seek_fault_of};
 ghost use Rattle.record_query.specs.declared.matching.SeekFault.TheVariants as seeks;
 
 use crate::found::Match;
@@ -158,7 +158,7 @@ fn match_body<V: View>(
     ensures reads { (V.seen view.new).base.reads + position.old.read
         ≤ (V.seen view.old).base.reads + position.new.read }
     ensures matcher { KeepsTerms matcher.old matcher.new }
-    ensures ends { MatchEnds start bytes head.now (V.seen view.old) (V.seen view.new) matcher.old result }
+    ensures ends { MatchBodyEnds start bytes head.now (V.seen view.old) (V.seen view.new) matcher.old result }
 {
     let mut count = 0;
     while count < head.body_length {

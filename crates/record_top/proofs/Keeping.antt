@@ -4,14 +4,14 @@ use Rattle.std.proofs.Common.{refl, sym, subst, arith, inl, ⊎_elim}
 use Rattle.cell_types.specs.Image.{Image, Between, Extends}
 use Rattle.cell_types.specs.declared.refusal.Refusal.{Refusal}
 use Rattle.cell_types.specs.declared.refusal.Refusal.TheVariants.{SinkFault}
-use Rattle.host_files.specs.Cells.{image_of}
+use Rattle.host_files.specs.Cells.{image_of_bytes}
 use Rattle.host_files.specs.Crashes.{CrashesAreSeen}
 use Rattle.host_files.specs.Device.{device_at}
 use Rattle.host_files.specs.File.{Told}
 use Rattle.host_ports.specs.Sinks.{SinkState}
 use Rattle.host_ports.specs.Sources.{Gives, SourceState}
 use Rattle.ingest_engine.specs.Ingesting.{IngestEnds, Ingests, IsIngested}
-use Rattle.volume_commands.specs.Ingesting.{DoesIngest, HasStored, acknowledgement, misnamed, untaken, taken}
+use Rattle.volume_commands.specs.Ingesting.{DoesIngest, WasStored, acknowledgement, misnamed, untaken, taken}
 use Rattle.volume_commands.specs.Ports.{Ports, Tells, ports_of}
 use Rattle.volume_commands.specs.Taking.{refusal_of_body_fault}
 use Rattle.volume_commands.specs.declared.body.BodyFault.{BodyFault}
@@ -24,7 +24,7 @@ use Rattle.volume_meaning.proofs.KeepingLaws.{kept_on}
 use Rattle.volume_meaning.proofs.Extending.{holds_on, stands_on}
 use Rattle.worm_device.specs.Calls.{Called}
 use Rattle.worm_device.specs.State.{DeviceState, LeftSince}
-use Rattle.record_top.specs.Files.{Acknowledges, IsKeptIn, IsLedToIn, IsStampedIn, IsStored, KeepsAll, KeepsIn, WhereTold, file_ports}
+use Rattle.record_top.specs.Files.{Acknowledges, IsKeptIn, IsLedToIn, IsStampedIn, IsDocumentStored, KeepsAllOfFile, KeepsIn, WhereTold, file_ports}
 
 -- what a crash from now on leaves has what is sure
 left_now : (s : DeviceState) (image : Image) → LeftSince s s.moment image → Between s.sure s.image image
@@ -33,12 +33,12 @@ left_now s image left = ⊎_elim (λ now. now) (λ past. absurd (omega (arith, p
 -- a document of the sure image is kept
 kept_told : (cells reads faults parts : ℕ) (told : Told)
     → CrashesAreSeen (device_at cells reads faults parts (Some told)) (Some told)
-    → (n : ℕ) (id body : List ℕ) → Stands cells (image_of cells told.now.sure) n id body
+    → (n : ℕ) (id body : List ℕ) → Stands cells (image_of_bytes cells told.now.sure) n id body
     → IsKeptIn cells told n id body
 kept_told cells reads faults parts told seen n id body stands = record {
   sure = stands;
   left = λ bytes leaves.
-      let now = left_now (device_at cells reads faults parts (Some told)) (image_of cells bytes)
+      let now = left_now (device_at cells reads faults parts (Some told)) (image_of_bytes cells bytes)
       (seen told told.moment bytes refl (inl leaves)) in
       stands_on now.above stands;
 }
@@ -46,11 +46,11 @@ kept_told cells reads faults parts told seen n id body stands = record {
 -- and so is a stamp
 stamp_told : (cells reads faults parts : ℕ) (told : Told)
     → CrashesAreSeen (device_at cells reads faults parts (Some told)) (Some told) → (n seconds : ℕ)
-    → HasStamp (image_of cells told.now.sure) n seconds → IsStampedIn cells told n seconds
+    → HasStamp (image_of_bytes cells told.now.sure) n seconds → IsStampedIn cells told n seconds
 stamp_told cells reads faults parts told seen n seconds has = record {
   sure = has;
   left = λ bytes leaves.
-      let now = left_now (device_at cells reads faults parts (Some told)) (image_of cells bytes)
+      let now = left_now (device_at cells reads faults parts (Some told)) (image_of_bytes cells bytes)
       (seen told told.moment bytes refl (inl leaves)) in
       holds_on now.above has;
 }
@@ -58,11 +58,11 @@ stamp_told cells reads faults parts told seen n seconds has = record {
 -- what the index leads to in the sure image it goes on leading to
 led_told : (cells reads faults parts : ℕ) (told : Told)
     → CrashesAreSeen (device_at cells reads faults parts (Some told)) (Some told) → {documents : List Document}
-    → Kept cells (image_of cells told.now.sure) documents → IsLedToIn cells told documents
+    → Kept cells (image_of_bytes cells told.now.sure) documents → IsLedToIn cells told documents
 led_told cells reads faults parts told seen kept = record {
   sure = kept;
   left = λ bytes leaves.
-      let now = left_now (device_at cells reads faults parts (Some told)) (image_of cells bytes)
+      let now = left_now (device_at cells reads faults parts (Some told)) (image_of_bytes cells bytes)
       (seen told told.moment bytes refl (inl leaves)) in
       kept_on now.above kept;
 }
@@ -70,10 +70,10 @@ led_told cells reads faults parts told seen kept = record {
 -- what stands in these bytes is sure, and so each of their documents is kept
 keeps_all : (before cells reads faults parts : ℕ) (bytes : List ℕ) (told : Told) → before ≡ cells
     → CrashesAreSeen (device_at cells reads faults parts (Some told)) (Some told)
-    → Extends (image_of before bytes) (image_of cells told.now.sure) → KeepsAll cells bytes told
+    → Extends (image_of_bytes before bytes) (image_of_bytes cells told.now.sure) → KeepsAllOfFile cells bytes told
 keeps_all before cells reads faults parts bytes told same seen extends n id body stands =
     kept_told cells reads faults parts told seen n id body
-    (stands_on (subst (λ (k : ℕ). Extends (image_of k bytes) (image_of cells told.now.sure)) same extends) stands)
+    (stands_on (subst (λ (k : ℕ). Extends (image_of_bytes k bytes) (image_of_bytes cells told.now.sure)) same extends) stands)
 
 -- a device that tells goes on telling
 one_tells : true ≡ false → ⊥
@@ -83,7 +83,7 @@ one_tells e = absurd cc
 pub stays : (b r f p cells reads faults parts : ℕ) (old new : Option Told)
     → Called (device_at b r f p old) (device_at cells reads faults parts new)
     → CrashesAreSeen (device_at cells reads faults parts new) new
-    → WhereTold old new (λ before after. KeepsAll cells before.now.sure after)
+    → WhereTold old new (λ before after. KeepsAllOfFile cells before.now.sure after)
 stays b r f p cells reads faults parts None None called seen = tt
 stays b r f p cells reads faults parts None (Some u) called seen = one_tells called.tells
 stays b r f p cells reads faults parts (Some t) None called seen = one_tells (sym called.tells)
@@ -99,7 +99,7 @@ stored : (b r f p cells reads faults parts : ℕ) (old new : Option Told) (id : 
     (device_at cells reads faults parts new))
     → Acknowledges result slot sink sink'
     → WhereTold old new (λ before after.
-    IsStored cells id stamp body before after sink sink' result × KeepsAll cells before.now.bytes after)
+    IsDocumentStored cells id stamp body before after sink sink' result × KeepsAllOfFile cells before.now.bytes after)
 stored b r f p cells reads faults parts None None id stamp body slot sink sink' result called seen ingested named = tt
 stored b r f p cells reads faults parts None (Some u) id stamp body slot sink sink' result called seen ingested named =
     one_tells called.tells
@@ -111,15 +111,15 @@ stored b r f p cells reads faults parts (Some t) (Some u) id stamp body slot sin
         slot = slot;
         kept = kept_told cells reads faults parts u seen slot id body is.document;
         stamped = λ seconds given. stamp_told cells reads faults parts u seen slot seconds
-            (subst (λ (s : Option ℕ). IsStampOf is.layout (image_of cells u.now.sure) slot s) given is.stamped).1;
+            (subst (λ (s : Option ℕ). IsStampOf is.layout (image_of_bytes cells u.now.sure) slot s) given is.stamped).1;
         led = λ documents before. led_told cells reads faults parts u seen
-            (is.keeps documents (subst (λ (k : ℕ). Kept k (image_of k t.now.bytes) documents) called.cells before));
+            (is.keeps documents (subst (λ (k : ℕ). Kept k (image_of_bytes k t.now.bytes) documents) called.cells before));
         named = named;
       },
       keeps_all b cells reads faults parts t.now.bytes u (sym called.cells) seen is.synced,
     )
 
-not_stored : (fault : BodyFault) → HasStored (Err (refusal_of_body_fault fault)) → ⊥
+not_stored : (fault : BodyFault) → WasStored (Err (refusal_of_body_fault fault)) → ⊥
 not_stored faults.TooLong h = h
 not_stored faults.SourceFailed h = h
 not_stored faults.NoMemory h = h
@@ -136,9 +136,9 @@ module _ (b r f p cells reads faults parts : ℕ) (told told' : Option Told) (id
   told_of : (result : Result Unit Refusal) (given : List ℕ) (answer : Result ℕ Refusal)
       → Ingests id stamp given device later answer
       → Tells acknowledgement answer (ports_of device source sink) (ports_of later source' sink') result
-      → HasStored result
+      → WasStored result
       → WhereTold told told' (λ before after.
-      IsStored cells id stamp given before after sink sink' result × KeepsAll cells before.now.bytes after)
+      IsDocumentStored cells id stamp given before after sink sink' result × KeepsAllOfFile cells before.now.bytes after)
   told_of (Ok u) given (Ok slot) ingests tells has =
       stored b r f p cells reads faults parts told told' id stamp given slot sink sink' (Ok u) ingests.called seen
       ingests.ends tells
@@ -157,12 +157,12 @@ module _ (b r f p cells reads faults parts : ℕ) (told told' : Option Told) (id
   keeps result (misnamed bad is same) = record {
     given = [];
     gives = subst (λ (s : Ports). Gives source.left s.source.left []) (sym same) (gives_nothing source.left);
-    kept = λ has. absurd (subst HasStored is has);
+    kept = λ has. absurd (subst WasStored is has);
   }
   keeps result (untaken given fault name gives fails is same held) = record {
     given = given;
     gives = gives;
-    kept = λ has. absurd (not_stored fault (subst HasStored is has));
+    kept = λ has. absurd (not_stored fault (subst WasStored is has));
   }
   keeps result (taken body answer name is gives end ingests tells) = record {
     given = body;

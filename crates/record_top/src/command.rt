@@ -16,7 +16,7 @@ use host_ports::{Meter, Silent, Sink, Source};
 use std::alloc::Global;
 use volume_commands::{
     Outcome, audit_volume, check_source, find_between, find_documents, format_device, ingest_body,
-    look_up_document, put_receipt, recover_device,
+    lookup_document, put_receipt, recover_device,
 };
 use worm_device::Device;
 
@@ -108,7 +108,7 @@ fn carry_out<D: Device, S: Source, K: Sink, M: Meter>(
         } => format_device(slots, lists, version, device, source, sink),
         Command::Ingest { id, stamp } => ingest_body(alloc, id, stamp, device, source, sink),
         Command::Find { words } => find_documents(alloc, words, device, source, sink),
-        Command::LookUp { id } => look_up_document(id, device, source, sink),
+        Command::LookUp { id } => lookup_document(id, device, source, sink),
         Command::Recover => recover_device(device, source, sink),
         Command::Audit => audit_volume(alloc, device, source, sink, meter),
         Command::Replay => replay_script(alloc, device, source, sink),

@@ -17,7 +17,7 @@ ghost use Rattle.std.specs.Prelude.{◌≡◌, ◌↔◌, ℕ, List, Option, map
 ghost use Rattle.std.specs.String.{string_bytes};
 ghost use Rattle.command_line.specs.Asking.{AsksToIngest};
 ghost use Rattle.command_line.specs.Requests.{Asks, AsksNothing, Request};
-ghost use Rattle.record_top.specs.Files.{KeepsAll, KeepsIn, WhereTold, file_ports};
+ghost use Rattle.record_top.specs.Files.{KeepsAllOfFile, KeepsIn, WhereTold, file_ports};
 ghost use Rattle.host_files.specs.Crashes.{CrashesAreSeen};
 ghost use Rattle.host_files.specs.Over.{file_below, state_over};
 ghost use Rattle.command_laws.specs.Begins.{BeginsSteady};
@@ -67,7 +67,7 @@ pub fn run_over_file<F: HostFile, S: Source, K: Sink, M: Meter>(
     // Whatever the words are, and however it ends, the file keeps each document of the bytes that no crash could take
     // at entry.
     ensures stays { WhereTold (file_below device.old).told (file_below device.new).told
-        (λ before after. KeepsAll (state_over device.new).cells before.now.sure after) }
+        (λ before after. KeepsAllOfFile (state_over device.new).cells before.now.sure after) }
     // What a crash leaves of the file, at any moment of the command, is a crash of the device, of which `run` speaks.
     ensures crashes { CrashesAreSeen (state_over device.new) (file_below device.new).told }
 {

@@ -13,7 +13,7 @@ use hostile_replay::replay;
 use script_events::{Script, read_script, scripts_are_in_limits};
 use script_replies::text_of_replies;
 use std::alloc::Global;
-use volume_commands::{Outcome, take_body};
+use volume_commands::{Outcome, take_input};
 use volume_meaning::MAX_BODY_BYTES;
 use worm_device::Device;
 use worm_memory::MemoryDevice;
@@ -29,7 +29,7 @@ pub fn replay_script<D: Device, S: Source, K: Sink>(
     ensures { DoesReplay (ports_of (D.state _device.old) (S.state source.old) (K.state sink.old))
         (ports_of (D.state _device.new) (S.state source.new) (K.state sink.new)) result }
 {
-    let text = take_body(alloc, source, MAX_BODY_BYTES)?;
+    let text = take_input(alloc, source, MAX_BODY_BYTES)?;
     let script = read_script(alloc, &text)?;
     scripts_are_in_limits();
     let lines = lines_of(alloc, &script)?;

@@ -16,7 +16,7 @@ use Rattle.recovery_engine.specs.declared.put.Blame.TheVariants as blames
 use Rattle.recovery_engine.specs.Putting.{Puts, PutsPhase, IsThis}
 use Rattle.recovery_engine.proofs.Phasing.{false_true, only_looked, changes_wider, puts_more, puts_ended, puts_looked, phase_ended}
 use Rattle.recovery_engine.specs.declared.journal.Journal.{Journal}
-use Rattle.recovery_engine.specs.Journal.{IsEntryOf, IsEntryPut, IsUnfitAt, EntryEnds}
+use Rattle.recovery_engine.specs.Journal.{IsEntryOf, IsEntryPut, IsUnfitAt, JournalEntryEnds}
 
 -- the floor of journal cell n, where the cells before it are entries, and lie below it
 pub record CheckedTo (first : ℕ) (image : Image) (place below n floor : ℕ) : Type 0 where
@@ -160,7 +160,7 @@ module _ (j : Journal) (k : ℕ) (less : k < j.count) {old mid now : DeviceState
       flaw
 
   -- a journal cell was not read
-  pub entry_refused : (fault : Fault) → EntryEnds j k floor mid now (Err fault)
+  pub entry_refused : (fault : Fault) → JournalEntryEnds j k floor mid now (Err fault)
       → PutsPhase (IsEntryPut old.image j.place j.count) old now (Err fault)
   entry_refused Failed ends = phase_ended Failed (record {
     called = c0;

@@ -19,7 +19,7 @@ use Rattle.worm_device.specs.Views.{ViewState, Viewed}
 use Rattle.worm_device.proofs.Counting.{still_second}
 use Rattle.worm_device.proofs.Images.{extends_self}
 use Rattle.worm_device.proofs.Resting.{rests_of}
-use Rattle.recovery_engine.specs.LastSlot.{IsFollowed, IsReserveCell, IsNamed, IsSlotRule, LastEnds}
+use Rattle.recovery_engine.specs.LastSlot.{IsFollowed, IsReserveCell, IsSlotEvidence, IsSlotRule, LastEnds}
 use Rattle.recovery_engine.proofs.States.{reserved_by, reserves_one, followed, not_followed}
 
 -- a state seen between two images was seen between any that lie further apart
@@ -42,7 +42,7 @@ cells_are a b e = cc
 -- evidence that names the slot's reserve cell, where its cells are out of order
 out_of_order : (g : Layout) (n total from to : ℕ) (image : Image) (cells : Reservation) (e : Evidence) → n < g.slots
     → IsReserveCell n cells e → Reserves g image n cells.start cells.length
-    → (IsStill from to → ReserveRule g image n → ⊥) → IsNamed g total from to image e
+    → (IsStill from to → ReserveRule g image n → ⊥) → IsSlotEvidence g total from to image e
 out_of_order g n total from to image cells e less is r why =
     let stands : image e.cell ≡ Some e.found =
     ap image is.at ∙ r.reserve.stands ∙ ap Some (r.reserve.is.same ∙ sym is.found) in

@@ -21,7 +21,7 @@ use Rattle.recovery_engine.specs.declared.put.Put.{Put}
 use Rattle.recovery_engine.specs.Putting.{IsPut, IsPutTwice, IsTaken, IsInFirst, PutsPhases, blamed, evidence_of}
 use Rattle.volume_meaning.specs.Documents.{document_at}
 use Rattle.recovery_engine.specs.Entries.{target_of, IsCopy, IsUnfit, IsFloor, AreEntries}
-use Rattle.tamper_rules.specs.Journals.{journal_at, Copies, IsInOrder}
+use Rattle.tamper_rules.specs.Journals.{journal_at, CopiesIndexCell, IsInOrder}
 use Rattle.tamper_rules.specs.Rules.{IsBroken, IsPlaceOf, IsOfPool, OutcomeCells, DoneCells, Journals, Targets}
 use Rattle.tamper_rules.specs.declared.numbers.TheConstants.{BROKEN_JOURNAL, OUTCOME_CELL, DONE_CELL, OTHER_TARGET}
 use Rattle.tamper_rules.proofs.Images.{same_image, look}
@@ -38,8 +38,8 @@ use Rattle.worm_device.proofs.Images.{extends_self}
 use Rattle.recovery_engine.specs.Ending.{HasJournal, SlotCheckEnds, abandon_put, done_put, end_plan, end_phases, journal_of}
 use Rattle.recovery_engine.specs.Journal.{IsEntryPut, IsUnfitAt, IsFlawed, JournalEnds}
 use Rattle.recovery_engine.specs.declared.journal.Journal.{Journal}
-use Rattle.recovery_engine.specs.LastSlot.{IsLast}
-use Rattle.recovery_engine.specs.Settling.{HasOtherTarget, IsFound, IsSettlingRule, NamesTarget, SettleEnds}
+use Rattle.recovery_engine.specs.LastSlot.{IsLastSlot}
+use Rattle.recovery_engine.specs.Settling.{HasOtherTarget, IsFoundBroken, IsSettlingRule, NamesTarget, SettleEnds}
 use Rattle.recovery_engine.proofs.Rising.{entries_apart, entries_from}
 use Rattle.recovery_engine.proofs.InOrder.{state_further}
 
@@ -57,7 +57,7 @@ volume_later old new g called volume =
 
 -- the last slot, seen later
 pub last_on : (g : Layout) (before after after' : Image) (n : ℕ) (state : SlotState) → Extends after after'
-    → IsLast g before after n state → IsLast g before after' n state
+    → IsLastSlot g before after n state → IsLastSlot g before after' n state
 last_on g before after after' n state e last = record {
   is = state_further g before before after after' n state (extends_self before) e last.is;
   follows = λ cells reserved.
@@ -78,7 +78,7 @@ broken_before old now rule cell called same broken =
 -- what looks find, they have not written
 pub found_looked : (old now : DeviceState) (e : Evidence) → IsSettlingRule e.rule → Called old now
     → (IsStill old.foreign_writes now.foreign_writes → IsUnchanged old.image now.image) → IsLicensed old now e
-    → IsFound IsSettlingRule old now e
+    → IsFoundBroken IsSettlingRule old now e
 found_looked old now e rule called quiet licensed = record {
   rule = rule;
   licensed = licensed;
@@ -107,7 +107,7 @@ module _ (g : Layout) (n s l b j : ℕ) where
       × (floor ≡ target_of before + 1)). ⊎_elim
       (λ (first : k ≡ 0). omega (arith, first, c.2))
       (λ (r : (before : ℕ) × (lower : ℕ) × (other : RecordCell) × (k ≡ before + 1)
-      × Copies image s l j before lower other × (lower < o.target)).
+      × CopiesIndexCell image s l j before lower other × (lower < o.target)).
       let same : r.0 ≡ c.0 = omega (arith, r.3, c.2) in
       let entry : r.4.entry ≡ c.1 = value_is r.4.entry c.1
       (sym r.4.stands ∙ ap (λ (m : ℕ). image (journal_at s l j + m)) same ∙ c.3) in
@@ -209,7 +209,7 @@ module _ (g : Layout) (n s l b j : ℕ) where
         stores.done;
   }
     where
-      copies : Copies image s l j k (target_of value) copy.held
+      copies : CopiesIndexCell image s l j k (target_of value) copy.held
       copies = record {
         below = within;
         entry = value;
@@ -261,7 +261,7 @@ module _ (g : Layout) (n : ℕ) (s0 s3 s4 s5 : DeviceState) (c03 : Called s0 s3)
   -- a look at the slot's journal was refused
   pub check_refused : (state : SlotState) (fault : Fault)
       → (IsStill s4.foreign_writes s5.foreign_writes → IsUnchanged s4.image s5.image)
-      → (IsTrue s0.tells → IsVolume s4.cells s4.image g) → (IsTrue s4.tells → IsLast g s3.image s4.image n state)
+      → (IsTrue s0.tells → IsVolume s4.cells s4.image g) → (IsTrue s4.tells → IsLastSlot g s3.image s4.image n state)
       → SlotCheckEnds g n state s4 s5 (Err fault) → SettleEnds s0 s5 (Err (refusal_of_fault fault))
   check_refused state faults.Failed quiet_45 volume last ends = omega (arith, ends, c04.faults)
   check_refused Unused (faults.Tampered e) quiet_45 volume last ends = λ tells. absurd (ends (tells_4 tells))
@@ -292,7 +292,7 @@ module _ (g : Layout) (n : ℕ) (s0 s3 s4 s5 : DeviceState) (c03 : Called s0 s3)
         → (let own : Put = record { at = a; value = v; blame = Rule rule } in taken.put ≡ own) → IsPlaceOf g rule a
         → IsSettlingRule rule
         → s3.image a ≡ None → ((other : Put) → P other → other.at ≡ a → other.value ≡ v)
-        → IsFound IsSettlingRule s0 s5 e
+        → IsFoundBroken IsSettlingRule s0 s5 e
     own_held P rule a v taken is place named none once =
         let here : taken.put.at ≡ a = ap (λ (p : Put). p.at) is in
         let value : taken.put.value ≡ v = ap (λ (p : Put). p.value) is in
@@ -302,7 +302,7 @@ module _ (g : Layout) (n : ℕ) (s0 s3 s4 s5 : DeviceState) (c03 : Called s0 s3)
         (λ (twice : IsPutTwice P taken.put taken.found).
         taken.differs (sym twice.is ∙ once twice.other twice.planned (twice.here ∙ here) ∙ sym value))
         (taken.stood (still_45 still)) in
-        subst (IsFound IsSettlingRule s0 s5) (sym (taken.is ∙ ap (λ (p : Put). evidence_of p taken.found) is)) (record {
+        subst (IsFoundBroken IsSettlingRule s0 s5) (sym (taken.is ∙ ap (λ (p : Put). evidence_of p taken.found) is)) (record {
           rule = named;
           licensed = record {
             stands = ap s5.image (sym here) ∙ taken.stands;
@@ -397,7 +397,7 @@ module _ (g : Layout) (n : ℕ) (s0 s3 s4 s5 : DeviceState) (c03 : Called s0 s3)
 
       -- the target of this journal cell holds another value
       target_held : (taken : IsTaken (IsInFirst (end_plan s4.image n (Committed s l b j)) 2) s4 s5 e)
-          → IsEntryPut s4.image (journal_at s l j) j taken.put → IsFound IsSettlingRule s0 s5 e
+          → IsEntryPut s4.image (journal_at s l j) j taken.put → IsFoundBroken IsSettlingRule s0 s5 e
       target_held taken is =
           let k = is.0 in
           let put = taken.put in
@@ -410,7 +410,7 @@ module _ (g : Layout) (n : ℕ) (s0 s3 s4 s5 : DeviceState) (c03 : Called s0 s3)
           c45.image.keeps (journal_at s l j + k) put.value is.2.stands in
           let other : s5.image (target_of put.value) ≡ Some taken.found = ap s5.image (sym is.2.at) ∙ taken.stands in
           let stood = target_stood taken is in
-          subst (IsFound IsSettlingRule s0 s5)
+          subst (IsFoundBroken IsSettlingRule s0 s5)
           (sym (taken.is ∙ ap (λ (w : Blame). blamed w put.at put.value taken.found) is.2.blame))
           (record {
             rule = inr (inr refl);
@@ -437,9 +437,9 @@ module _ (g : Layout) (n : ℕ) (s0 s3 s4 s5 : DeviceState) (c03 : Called s0 s3)
           })
 
     -- the slot was not ended
-    taken_found : (state : SlotState) → IsLast g s3.image s4.image n state → HasJournal g state s4.image
+    taken_found : (state : SlotState) → IsLastSlot g s3.image s4.image n state → HasJournal g state s4.image
         → PutsPhases (end_plan s4.image n state) (end_phases state) s4 s5 (Err (faults.Tampered e))
-        → IsFound IsSettlingRule s0 s5 e
+        → IsFoundBroken IsSettlingRule s0 s5 e
     taken_found Unused last entries phases = absurd (let t = phases.puts.ends tells in omega (arith, t.planned.1))
     taken_found (Abandoned s l) last entries phases =
         absurd (let t = phases.puts.ends tells in omega (arith, t.planned.1))
@@ -470,7 +470,7 @@ module _ (g : Layout) (n : ℕ) (s0 s3 s4 s5 : DeviceState) (c03 : Called s0 s3)
 
   -- and what was named by the rule of targets
   pub end_names : (state : SlotState) (fault : Fault) → IsVolume s4.cells s4.image g → IsTrue s4.tells
-      → IsLast g s3.image s4.image n state → HasJournal g state s4.image
+      → IsLastSlot g s3.image s4.image n state → HasJournal g state s4.image
       → PutsPhases (end_plan s4.image n state) (end_phases state) s4 s5 (Err fault)
       → NamesTarget s0 s5 (Err (refusal_of_fault fault))
   end_names state faults.Failed volume tells last entries phases = tt
@@ -501,7 +501,7 @@ module _ (g : Layout) (n : ℕ) (s0 s3 s4 s5 : DeviceState) (c03 : Called s0 s3)
       t.planned.2
 
   pub end_refused : (state : SlotState) (fault : Fault) → (IsTrue s0.tells → IsVolume s4.cells s4.image g)
-      → (IsTrue s4.tells → IsLast g s3.image s4.image n state) → (IsTrue s4.tells → HasJournal g state s4.image)
+      → (IsTrue s4.tells → IsLastSlot g s3.image s4.image n state) → (IsTrue s4.tells → HasJournal g state s4.image)
       → PutsPhases (end_plan s4.image n state) (end_phases state) s4 s5 (Err fault)
       → SettleEnds s0 s5 (Err (refusal_of_fault fault))
   end_refused state faults.Failed volume last entries phases = omega (arith, phases.puts.ends, c04.faults)

@@ -24,7 +24,7 @@ use Rattle.tamper_rules.specs.Settling.{Settled}
 use Rattle.tamper_rules.proofs.Images.{same_image}
 use Rattle.commit_record.specs.States.{IsState}
 use Rattle.recovery_engine.proofs.HalfDone.{settled_is_whole}
-use Rattle.recovery_engine.specs.LastSlot.{IsLast}
+use Rattle.recovery_engine.specs.LastSlot.{IsLastSlot}
 use Rattle.cell_types.specs.Layout.{Layout}
 use Rattle.volume_meaning.specs.Slots.{IsHorizon}
 use Rattle.volume_meaning.specs.Volumes.{IsVolume}
@@ -224,7 +224,7 @@ in_phases image n (Done s l b k) j put h = absurd (⊎_elim (λ (a : (j ≡ 1) �
 pub ending_of : (g : Layout) (n u : ℕ) (s0 s2 s3 s5 : DeviceState) (state : SlotState) → u ≡ n + 1 → Looked s0 s2
     → Called s2 s3 → Looked s0 s5 → Called s3 s5
     → IsVolume s5.cells s5.image g → IsHorizon g s2.image s3.image u
-    → IsLast g s3.image s5.image n state → HasJournal g state s5.image → IsEnding s0.cells s0.image s5.image n state
+    → IsLastSlot g s3.image s5.image n state → HasJournal g state s5.image → IsEnding s0.cells s0.image s5.image n state
 ending_of g n u s0 s2 s3 s5 state next l2 c23 l5 c35 volume horizon last journal = record {
   layout = g;
   volume = subst (λ (k : ℕ). IsVolume k s5.image g) l5.called.cells volume;
@@ -237,7 +237,7 @@ ending_of g n u s0 s2 s3 s5 state next l2 c23 l5 c35 volume horizon last journal
 -- which is none where the volume was settled, and nobody else wrote
 pub none_to_end : (g : Layout) (n u : ℕ) (s0 s2 s3 s4 : DeviceState) (state : SlotState) → u ≡ n + 1 → Looked s0 s2
     → Called s2 s3 → Looked s0 s4 → Called s3 s4 → IsVolume s4.cells s4.image g → IsHorizon g s2.image s3.image u
-    → IsLast g s3.image s4.image n state → Settled s0.cells s0.image → IsStill s0.foreign_writes s4.foreign_writes
+    → IsLastSlot g s3.image s4.image n state → Settled s0.cells s0.image → IsStill s0.foreign_writes s4.foreign_writes
     → end_phases state ≡ 0
 none_to_end g n u s0 s2 s3 s4 state next l2 c23 l4 c34 volume horizon last settled still =
     let same : s4.image ≡ s0.image = same_image (l4.quiet still) in

@@ -28,7 +28,7 @@ use Rattle.worm_device.specs.State.{DeviceState}
 use Rattle.worm_device.proofs.Counting.{still_first, still_second}
 use Rattle.worm_device.proofs.Elapsing.{called_then}
 use Rattle.worm_device.proofs.Images.{extends_self, extends_then}
-use Rattle.recovery_engine.specs.LastSlot.{IsLast, IsNamed, IsSlotRule, LastEnds}
+use Rattle.recovery_engine.specs.LastSlot.{IsLastSlot, IsSlotEvidence, IsSlotRule, LastEnds}
 use Rattle.recovery_engine.specs.Settling.{LastFollows, StepMakes, IsReady, LiesInBounds, NamesTarget, SettleEnds, unused}
 use Rattle.tamper_rules.specs.declared.numbers.TheConstants.{OTHER_TARGET, RESERVE_CELL, OUTCOME_CELL, DONE_CELL}
 use Rattle.cell_types.specs.declared.geometry.Volume.{Volume}
@@ -49,7 +49,7 @@ none_cells a e = cc
 -- evidence of the last look, from the first state on
 named_licensed : (g : Layout) (s0 s3 s4 : DeviceState) (e : Evidence) → Called s0 s3 → Called s3 s4
     → IsVolume s4.cells s4.image g
-    → IsNamed g s4.cells s3.foreign_writes s4.foreign_writes s4.image e → IsLicensed s0 s4 e
+    → IsSlotEvidence g s4.cells s3.foreign_writes s4.foreign_writes s4.image e → IsLicensed s0 s4 e
 named_licensed g s0 s3 s4 e c03 c34 volume named = record {
   stands = named.stands;
   layout = g;
@@ -68,7 +68,7 @@ module _ (g : Layout) (n u : ℕ) (cells : Reservation) (next : u ≡ n + 1) (le
   same_slot m is = omega (arith, next, is)
 
   -- what the step has made of the slot
-  pub step_makes : (state : SlotState) (u0 : Unit {0}) → IsLast g s3.image s4.image n state
+  pub step_makes : (state : SlotState) (u0 : Unit {0}) → IsLastSlot g s3.image s4.image n state
       → HasJournal g state s4.image → reservation_of state ≡ Some cells
       → PutsPhases (end_plan s4.image n state) (end_phases state) s4 s5 (Ok u0) → StepMakes g s0 s5 u (step_of n state)
   step_makes Unused u0 last entries reserved p = absurd (none_cells cells reserved)
@@ -130,7 +130,7 @@ module _ (g : Layout) (n u : ℕ) (cells : Reservation) (next : u ≡ n + 1) (le
       )
 
   -- the slot follows the one before it, at the end too
-  last_follows : (state : SlotState) → IsLast g s3.image s4.image n state → reservation_of state ≡ Some cells
+  last_follows : (state : SlotState) → IsLastSlot g s3.image s4.image n state → reservation_of state ≡ Some cells
       → LastFollows g s0.image s5.image n
   last_follows state last reserved =
       let follows = last.follows cells reserved in
@@ -148,7 +148,7 @@ module _ (g : Layout) (n u : ℕ) (cells : Reservation) (next : u ≡ n + 1) (le
   pub ready : (r : Ready) (state : SlotState) (u0 : Unit {0}) → r.volume.geometry ≡ g → r.horizon ≡ u
       → r.edge ≡ cells.start + cells.length → IsVolume s5.cells s5.image r.volume.geometry
       → IsLogEnd r.volume.geometry s2.image s3.image r.horizon
-      → IsLast g s3.image s4.image n state → reservation_of state ≡ Some cells
+      → IsLastSlot g s3.image s4.image n state → reservation_of state ≡ Some cells
       → HasJournal g state s4.image → PutsPhases (end_plan s4.image n state) (end_phases state) s4 s5 (Ok u0) → r.step ≡
       step_of n state → Extends s0.image s5.sure
       → (IsStill s2.foreign_writes s4.foreign_writes → IsUnchanged s2.image s4.image) → IsReady s0 s5 r

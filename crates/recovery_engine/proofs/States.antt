@@ -6,7 +6,7 @@ use Rattle.cell_types.specs.Layout.{Layout, reserve_at, outcome_at, done_at, poo
 use Rattle.cell_types.specs.declared.record_cell.RecordCell.{RecordCell}
 use Rattle.cell_types.specs.declared.record_cell.RecordCell.TheVariants.{Commit, Abandon}
 use Rattle.commit_record.specs.Reservations.{reservation_of}
-use Rattle.commit_record.specs.States.{IsState, LiesInPool, AreOfPool}
+use Rattle.commit_record.specs.States.{IsState, StateLiesInPool, AreOfPool}
 use Rattle.commit_record.specs.declared.reservation.Reservation.{Reservation}
 use Rattle.commit_record.specs.declared.slot.SlotState.{SlotState}
 use Rattle.commit_record.specs.declared.slot.SlotState.TheVariants.{Unused, Reserved, Abandoned, Committed, Done}
@@ -23,7 +23,7 @@ none_some : (a : Reservation) → None ≡ Some a → ⊥
 none_some a e = cc
 
 -- the cells that a state names lie in the pool
-pub of_pool : (g : Layout) (state : SlotState) (cells : Reservation) → LiesInPool g state
+pub of_pool : (g : Layout) (state : SlotState) (cells : Reservation) → StateLiesInPool g state
     → reservation_of state ≡ Some cells → AreOfPool g cells.start cells.length
 of_pool g Unused cells within e = absurd (none_some cells e)
 of_pool g (Reserved s l) cells within e =
@@ -40,7 +40,7 @@ of_pool g (Done s l b j) cells within e =
     within.0
 
 -- so their end is a number of 32 bits
-pub end_fits : (g : Layout) (state : SlotState) → LiesInPool g state
+pub end_fits : (g : Layout) (state : SlotState) → StateLiesInPool g state
     → IfSome (reservation_of state) (λ cells. cells.start + cells.length < 2 ^ 32)
 end_fits g Unused within = tt
 end_fits g (Reserved s l) within = omega (arith, within.3)

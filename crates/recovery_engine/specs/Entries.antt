@@ -34,7 +34,7 @@ abbrev pub IsUnfit : ℕ → ℕ → List ℕ → Type 0
 IsUnfit floor below cell = (IsCopy cell → ⊥) ⊎ (target_of cell < floor) ⊎ (below ≤ target_of cell)
 
 -- journal cell k stands, and asks for what it may ask for
-pub record IsEntry (first : ℕ) (image : Image) (place below k : ℕ) : Type 0 where
+pub record IsJournalEntry (first : ℕ) (image : Image) (place below k : ℕ) : Type 0 where
   pub cell : List ℕ
   pub floor : ℕ
   pub stands : image (place + k) ≡ Some cell
@@ -43,4 +43,4 @@ pub record IsEntry (first : ℕ) (image : Image) (place below k : ℕ) : Type 0 
 
 -- so do the first n cells of a journal: the first cells that may be asked for is this one, and all lie below that one
 abbrev pub AreEntries : ℕ → Image → ℕ → ℕ → ℕ → Type 0
-AreEntries first image place below n = (k : ℕ) → k < n → IsEntry first image place below k
+AreEntries first image place below n = (k : ℕ) → k < n → IsJournalEntry first image place below k

@@ -30,12 +30,12 @@ pub record IsUnfitAt (at floor below : ℕ) (image : Image) (e : Evidence) : Typ
   pub unfit : IsUnfit floor below e.found
 
 -- how a look at journal cell k may end, and why: a blank one is told by the commit cell
-abbrev pub EntryEnds : Journal → ℕ → ℕ → DeviceState → DeviceState → Result Put Fault → Type 0
-EntryEnds j k floor old new (Ok put) =
+abbrev pub JournalEntryEnds : Journal → ℕ → ℕ → DeviceState → DeviceState → Result Put Fault → Type 0
+JournalEntryEnds j k floor old new (Ok put) =
     IsFit floor j.below put.value × (put.at ≡ target_of put.value)
     × (IsTrue old.tells → IsEntryOf new.image j.place k put)
-EntryEnds j k floor old new (Err Failed) = Rose old.faults new.faults
-EntryEnds j k floor old new (Err (Tampered e)) =
+JournalEntryEnds j k floor old new (Err Failed) = Rose old.faults new.faults
+JournalEntryEnds j k floor old new (Err (Tampered e)) =
     IsTrue old.tells
     → ((e ≡ j.commit) × (new.image (j.place + k) ≡ None)) ⊎ IsUnfitAt (j.place + k) floor j.below new.image e
 

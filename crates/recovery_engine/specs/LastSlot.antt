@@ -14,7 +14,7 @@ use Rattle.tamper_rules.specs.declared.numbers.TheConstants.{DONE_CELL, OUTCOME_
 use Rattle.worm_device.specs.Counts.{Rose, IsStill}
 use Rattle.worm_device.specs.Views.{ViewState}
 use Rattle.commit_record.specs.Reservations.{reservation_of}
-use Rattle.commit_record.specs.States.{IsState, LiesInPool}
+use Rattle.commit_record.specs.States.{IsState, StateLiesInPool}
 use Rattle.commit_record.specs.declared.reservation.Reservation.{Reservation}
 use Rattle.commit_record.specs.declared.slot.SlotState.{SlotState}
 use Rattle.commit_record.specs.declared.slot.SlotState.TheVariants.{Abandoned, Done}
@@ -31,7 +31,7 @@ IsFollowed (Done start length bytes journal) next = start + length ≡ next
 IsFollowed state next = ⊥
 
 -- slot n is in this state, and where it reserves cells it follows those below it
-pub record IsLast (g : Layout) (before after : Image) (n : ℕ) (state : SlotState) : Type 0 where
+pub record IsLastSlot (g : Layout) (before after : Image) (n : ℕ) (state : SlotState) : Type 0 where
   pub is : IsState g before after n state
   pub follows : (cells : Reservation) → reservation_of state ≡ Some cells → Follows g before after n cells.start
 
@@ -47,7 +47,7 @@ IsSlotRule number = (number ≡ RESERVE_CELL) ⊎ (number ≡ OUTCOME_CELL) ⊎ 
 
 -- The evidence stands, in the place of its rule, which is one of these. Where nobody else wrote, as these values of the
 -- count of foreign writes say, and cell 0 states this layout, its rule is broken there.
-pub record IsNamed (g : Layout) (cells from to : ℕ) (image : Image) (e : Evidence) : Type 0 where
+pub record IsSlotEvidence (g : Layout) (cells from to : ℕ) (image : Image) (e : Evidence) : Type 0 where
   pub rule : IsSlotRule e.rule
   pub stands : image e.cell ≡ Some e.found
   pub place : IsPlaceOf g e.rule e.cell
@@ -55,8 +55,9 @@ pub record IsNamed (g : Layout) (cells from to : ℕ) (image : Image) (e : Evide
 
 -- how a look at the last slot may end, and why
 abbrev pub LastEnds : Layout → ℕ → ViewState → ViewState → Result SlotState Fault → Type 0
-LastEnds g n old new (Ok state) = LiesInPool g state × (IsTrue old.base.tells → IsLast g old.image new.image n state)
+LastEnds g n old new (Ok state) = StateLiesInPool g state
+    × (IsTrue old.base.tells → IsLastSlot g old.image new.image n state)
 LastEnds g n old new (Err Failed) = Rose old.base.faults new.base.faults
 LastEnds g n old new (Err (Tampered e)) =
     IsTrue old.base.tells
-    → IsNamed g new.cells old.base.foreign_writes new.base.foreign_writes new.image e
+    → IsSlotEvidence g new.cells old.base.foreign_writes new.base.foreign_writes new.image e

@@ -34,7 +34,7 @@ IsSettlingRule number = IsSlotRule number ⊎ (number ≡ BROKEN_JOURNAL) ⊎ (n
 
 -- The evidence names one of these rules, and may be named; and where nobody else wrote in the call, its rule was
 -- broken there before the call, too: so it is nothing that the call itself has written.
-pub record IsFound (IsLookedAt : ℕ → Type 0) (old new : DeviceState) (e : Evidence) : Type 0 where
+pub record IsFoundBroken (IsLookedAt : ℕ → Type 0) (old new : DeviceState) (e : Evidence) : Type 0 where
   pub rule : IsLookedAt e.rule
   pub licensed : IsLicensed old new e
   pub before : IsStill old.foreign_writes new.foreign_writes → IsBroken old.cells old.image e.rule e.cell
@@ -100,7 +100,7 @@ SettleEnds old new (Err (NotAVolume found)) =
 SettleEnds old new (Err (WrongSize stated real)) =
     (real ≡ new.cells) × (stated ≢ real)
     × (IsTrue old.tells → (g : Layout) × Holds new.image 0 (volume_record g) × (g.cells ≡ stated))
-SettleEnds old new (Err (Tampered e)) = IsTrue old.tells → IsFound IsSettlingRule old new e
+SettleEnds old new (Err (Tampered e)) = IsTrue old.tells → IsFoundBroken IsSettlingRule old new e
 SettleEnds old new (Err refusal) = ⊥
 
 -- a journal cell stands here, and its target holds another value

@@ -1,7 +1,7 @@
 //! How the last slot is ended.
 ghost use Rattle.std.specs.Prelude.{◌≡◌, ◌<◌, ◌≤◌, IsOk, IsTrue};
 ghost use Rattle.cell_types.specs.Image.{IsUnchanged};
-ghost use Rattle.commit_record.specs.States.{LiesInPool};
+ghost use Rattle.commit_record.specs.States.{StateLiesInPool};
 ghost use Rattle.commit_record.specs.declared.slot.SlotState.TheVariants.{Committed};
 ghost use Rattle.recovery_engine.specs.Putting.{IsThis, PutsPhase, PutsPhases};
 ghost use Rattle.worm_device.specs.Calls.{Called};
@@ -27,7 +27,7 @@ pub fn journal_of(
     journal: u32,
 ) -> Journal
     requires slot { slot < geometry.now.slots }
-    requires within { LiesInPool geometry.now (Committed cells.start cells.length bytes journal) }
+    requires within { StateLiesInPool geometry.now (Committed cells.start cells.length bytes journal) }
     ensures { result ≡ journal_of geometry.now slot cells.start cells.length bytes journal }
 {
     // A layout has a list, as each of its calls says.
@@ -56,7 +56,7 @@ pub fn check_slot<D: Device>(
 ) -> Result<(), Fault>
     requires slot { slot < geometry.now.slots }
     requires size { geometry.now.cells ≤ (D.state device.old).cells }
-    requires within { LiesInPool geometry.now state.now }
+    requires within { StateLiesInPool geometry.now state.now }
     ensures called { Called (D.state device.old) (D.state device.new) }
     ensures quiet { IsStill (D.state device.old).foreign_writes (D.state device.new).foreign_writes →
         IsUnchanged (D.state device.old).image (D.state device.new).image }
@@ -88,7 +88,7 @@ pub fn end_slot<D: Device>(
 ) -> Result<(), Fault>
     requires slot { slot < geometry.now.slots }
     requires size { geometry.now.cells ≤ (D.state device.old).cells }
-    requires within { LiesInPool geometry.now state.now }
+    requires within { StateLiesInPool geometry.now state.now }
     requires journal { IsTrue (D.state device.old).tells →
         HasJournal geometry.now state.now (D.state device.old).image }
     ensures phases { PutsPhases (end_plan (D.state device.old).image slot state.now) (end_phases state.now)

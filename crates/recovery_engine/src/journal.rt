@@ -6,7 +6,7 @@ ghost use Rattle.recovery_engine.specs.Putting.{PutsPhase};
 ghost use Rattle.worm_device.specs.Calls.{Called};
 ghost use Rattle.worm_device.specs.Counts.{IsStill};
 ghost use Rattle.cell_types.specs.Image.{IsUnchanged};
-ghost use Rattle.recovery_engine.specs.Journal.{EntryEnds, JournalEnds, IsEntryPut};
+ghost use Rattle.recovery_engine.specs.Journal.{JournalEntryEnds, JournalEnds, IsEntryPut};
 
 use crate::put::{Blame, Put, put_cell};
 use cell_types::{Cell, Evidence, Fault, RecordCell, address_of, breach, decode};
@@ -57,7 +57,7 @@ fn entry<D: Device>(device: &mut D, journal: &Journal, k: u32, floor: u32) -> Re
     ensures quiet { IsStill (D.state device.old).foreign_writes (D.state device.new).foreign_writes →
         IsUnchanged (D.state device.old).image (D.state device.new).image }
     ensures unfailed { IsOk result → (D.state device.new).faults ≡ (D.state device.old).faults }
-    ensures ends { EntryEnds journal.now k floor (D.state device.old) (D.state device.new) result }
+    ensures ends { JournalEntryEnds journal.now k floor (D.state device.old) (D.state device.new) result }
 {
     let at = journal.place + k;
     let Some(cell) = device.read(at)? else {

@@ -12,7 +12,7 @@ use Rattle.script_events.specs.declared.event.Event.TheVariants as event
 use Rattle.script_events.specs.declared.event.Schedule.{Schedule}
 use Rattle.script_events.specs.declared.event.Script.{Script}
 use Rattle.script_events.specs.declared.event.Timed.{Timed}
-use Rattle.script_events.specs.declared.limits.TheConstants.{MAX_CALLED_FOR, MAX_EVENTS, MAX_FAILING, MAX_KEPT, MAX_MOMENT, MAX_SCRIPT_CELLS, MAX_WORDS}
+use Rattle.script_events.specs.declared.limits.TheConstants.{MAX_FOREIGN_WRITES, MAX_EVENTS, MAX_FAILING, MAX_KEPT, MAX_MOMENT, MAX_SCRIPT_CELLS, MAX_WORDS}
 
 -- the number of a step or of a call
 abbrev pub moment_number : Moment → ℕ
@@ -37,7 +37,7 @@ pub record IsPlanOn (cells : ℕ) (plan : Schedule) : Type 0 where
   pub stop : IsScriptStop plan.stop
   pub few_fail : length plan.fail ≤ MAX_FAILING
   pub each_fails : All IsScriptMoment plan.fail
-  pub few_foreign : length plan.foreign ≤ MAX_CALLED_FOR
+  pub few_foreign : length plan.foreign ≤ MAX_FOREIGN_WRITES
   pub each_foreign : All (IsTimedOn cells) plan.foreign
 
 -- the one term of some word, by some rule of words

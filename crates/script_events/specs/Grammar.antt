@@ -17,7 +17,7 @@ use Rattle.script_events.specs.declared.event.Schedule.{Schedule}
 use Rattle.script_events.specs.declared.event.Timed.{Timed}
 use Rattle.script_events.specs.declared.kind.EventKind.{EventKind}
 use Rattle.script_events.specs.declared.kind.EventKind.TheVariants as kind
-use Rattle.script_events.specs.declared.limits.TheConstants.{MAX_CALLED_FOR, MAX_FAILING, MAX_KEPT, MAX_MOMENT, MAX_WORDS}
+use Rattle.script_events.specs.declared.limits.TheConstants.{MAX_FOREIGN_WRITES, MAX_FAILING, MAX_KEPT, MAX_MOMENT, MAX_WORDS}
 
 -- an object with exactly one member, `step` or `call`, which is the number
 abbrev pub SaysMoment : Moment → Data → Type 0
@@ -46,7 +46,7 @@ abbrev pub SaysPlan : ℕ → Schedule → Data → Type 0
 SaysPlan cells plan d =
     MayHaveMember (codes "stop") SaysMoment plan.stop d
     × HasArray (codes "fail") SaysMoment MAX_FAILING plan.fail d
-    × HasArray (codes "foreign") (SaysTimed cells) MAX_CALLED_FOR plan.foreign d
+    × HasArray (codes "foreign") (SaysTimed cells) MAX_FOREIGN_WRITES plan.foreign d
 
 -- the members that say it
 abbrev pub plan_names : List (List ℕ)

@@ -13,7 +13,7 @@ pub const MAX_WORDS: usize = 8;
 pub const MAX_FAILING: usize = 16;
 
 /// The greatest number of foreign writes in one command.
-pub const MAX_CALLED_FOR: usize = 64;
+pub const MAX_FOREIGN_WRITES: usize = 64;
 
 /// The greatest number of cells that a crash is told to keep.
 pub const MAX_KEPT: usize = 65_536;

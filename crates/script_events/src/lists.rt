@@ -53,7 +53,7 @@ fn moments_in(alloc: Global, array: &Vec<Value>) -> Result<Option<Sequence<Momen
 }
 
 /// The foreign writes that the array has, where they are at most so many.
-pub(crate) fn timeds(
+pub(crate) fn planned_writes(
     alloc: Global,
     value: &Value,
     most: usize,
@@ -67,11 +67,11 @@ pub(crate) fn timeds(
     if count(array) > most {
         return Ok(None);
     }
-    timeds_in(alloc, array, cells)
+    planned_writes_in(alloc, array, cells)
 }
 
 /// The foreign writes that these are.
-fn timeds_in(
+fn planned_writes_in(
     alloc: Global,
     array: &Vec<Value>,
     cells: u32,

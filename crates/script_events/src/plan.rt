@@ -3,11 +3,11 @@ ghost use Rattle.std.specs.Prelude.{codes, IfOk};
 ghost use Rattle.serde_json.specs.View.{view};
 ghost use Rattle.script_events.specs.Grammar.{SaysMoment, SaysPlan, SaysTimed};
 ghost use Rattle.script_events.specs.Json.{Exactly, HasArray, MayHaveMember};
-ghost use Rattle.script_events.specs.declared.limits.TheConstants.{MAX_CALLED_FOR, MAX_FAILING};
+ghost use Rattle.script_events.specs.declared.limits.TheConstants.{MAX_FOREIGN_WRITES, MAX_FAILING};
 
 use crate::event::{Schedule, Timed};
-use crate::limits::{MAX_CALLED_FOR, MAX_FAILING};
-use crate::lists::{moments, timeds};
+use crate::limits::{MAX_FAILING, MAX_FOREIGN_WRITES};
+use crate::lists::{moments, planned_writes};
 use crate::sequence::Sequence;
 use crate::values::moment;
 use serde_json::Value;
@@ -59,11 +59,11 @@ fn fail(alloc: Global, value: &Value) -> Result<Option<Sequence<Moment>>, AllocE
 
 /// What others write before which calls.
 fn foreign(alloc: Global, value: &Value, cells: u32) -> Result<Option<Sequence<Timed>>, AllocError>
-    ensures { IfOk result (Exactly (λ foreign. HasArray (codes "foreign") (SaysTimed cells) MAX_CALLED_FOR foreign
+    ensures { IfOk result (Exactly (λ foreign. HasArray (codes "foreign") (SaysTimed cells) MAX_FOREIGN_WRITES foreign
         (view value.now))) }
 {
     match value.get("foreign") {
-        Some(foreign) => timeds(alloc, foreign, MAX_CALLED_FOR, cells),
+        Some(foreign) => planned_writes(alloc, foreign, MAX_FOREIGN_WRITES, cells),
         None => Ok(Some(Sequence::new(Vec::new(alloc)))),
     }
 }

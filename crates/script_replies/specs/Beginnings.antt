@@ -1,7 +1,7 @@
 -- How a device in memory stands as a command begins with the plan of an event.
 use Rattle.std.specs.Prelude.{◌++◌, List, map, true}
 use Rattle.worm_memory.specs.Memory.{Memory, with_begin}
-use Rattle.worm_memory.specs.Plans.{Plan}
+use Rattle.worm_memory.specs.Plans.{CommandPlan}
 use Rattle.worm_memory.specs.declared.moment.Moment.{Moment}
 use Rattle.worm_memory.specs.declared.moment.Timed as planned
 use Rattle.script_events.specs.declared.event.Schedule.{Schedule}
@@ -12,7 +12,7 @@ abbrev pub planned_of : Timed → planned.Timed
 planned_of t = record { before = t.before; at = t.at; value = t.cell }
 
 -- what befalls a command, as the device plans it
-abbrev pub plan_by : Schedule → Plan
+abbrev pub plan_by : Schedule → CommandPlan
 plan_by s = record {
   fails = s.fail;
   stop = s.stop;

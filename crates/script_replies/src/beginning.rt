@@ -13,7 +13,7 @@
 //! `specs/Beginnings.antt` says how the device stands as the command begins.
 ghost use Rattle.std.specs.Prelude.{◌≡◌, ◌≤◌, ◌*◌, ◌+◌, ◌++◌, true, OnOk};
 ghost use Rattle.std.specs.List.{All};
-ghost use Rattle.worm_memory.specs.Device.{IsReady, memory_of, room_of};
+ghost use Rattle.worm_memory.specs.Device.{HasMarkRoom, memory_of, room_of};
 ghost use Rattle.worm_memory.specs.Memory.{is_early, with_begin};
 ghost use Rattle.script_events.specs.Events.{IsPlanOn, IsTimedOn};
 ghost use Rattle.script_replies.specs.Beginnings.{begun_with, with_failures, with_foreign_planned};

@@ -9,7 +9,7 @@ use Rattle.cell_types.specs.declared.refusal.Evidence.{Evidence}
 use Rattle.volume_meaning.specs.Slots.{Stores}
 use Rattle.volume_meaning.specs.Volumes.{IsWritten}
 use Rattle.tamper_rules.specs.Rules.{Rule, ReserveCells, IsMet, IsPlace, IsOfPool}
-use Rattle.log_audit.specs.Findings.{IsMetAll, IsLeast}
+use Rattle.log_audit.specs.Findings.{IsMetAll, IsLeastBroken}
 use Rattle.log_audit.specs.Logs.{IsLog}
 use Rattle.log_audit.specs.Stored.{IsStored}
 use Rattle.log_audit.specs.declared.log.Log.{Log}
@@ -94,7 +94,7 @@ module _ (g : Layout) (image : Image) (met : IsMetAll g image ReserveCells) (rul
       → ((cell : ℕ) → ((t : StoredSlot) → IsStored g image t → (q : ℕ) → q < t.journal → cell ≡ journal_cell t q → Good t q)
       → IsMet g image rule cell)
       → (IsMet g image rule e.cell → Good s first.place)
-      → IsLeast g image rule e
+      → IsLeastBroken g image rule e
   least_place {s} {e} stored good first place ask unmet = record {
     number = first.number;
     place = place;

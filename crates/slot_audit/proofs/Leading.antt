@@ -7,7 +7,7 @@ use Rattle.cell_types.specs.declared.record_cell.RecordCell.{RecordCell}
 use Rattle.cell_types.specs.declared.record_cell.RecordCell.TheVariants.{Volume, Reserve, Commit, Abandon, Done, Posting, Jump, Bucket, Child, Stamp}
 use Rattle.cell_types.proofs.OneRecord.{address_in, body_in, body_is_one}
 use Rattle.volume_meaning.proofs.Holding.{some_is}
-use Rattle.tamper_rules.specs.Journals.{journal_at, Copies, IsInOrder, IsIndexRecord}
+use Rattle.tamper_rules.specs.Journals.{journal_at, CopiesIndexCell, IsInOrder, IsIndexRecord}
 use Rattle.tamper_rules.specs.Rules.{HasJump, HasChild, Journals}
 use Rattle.recovery_engine.specs.Entries.{target_of}
 use Rattle.log_audit.specs.Findings.{IsMetAll}
@@ -15,7 +15,7 @@ use Rattle.log_audit.specs.Stored.{IsStored}
 use Rattle.log_audit.specs.declared.stored.StoredSlot.{StoredSlot}
 use Rattle.log_audit.proofs.Storing.{stores_it}
 use Rattle.slot_audit.specs.Copied.{IsCopied}
-use Rattle.slot_audit.specs.Tables.{HaveTargets, IsLed}
+use Rattle.slot_audit.specs.Tables.{HaveTargets, IsLedByJournal}
 use Rattle.slot_audit.specs.Tiles.{HasTile, tile_in}
 use Rattle.slot_audit.specs.declared.tile.Tile.{Tile}
 
@@ -38,7 +38,7 @@ leads_to (Bucket a b) tile leads = absurd (cc)
 leads_to (Stamp a) tile leads = absurd (cc)
 
 -- a copy of an index cell, told otherwise
-copied_by : {image : Image} {s l j place at : ℕ} {held : RecordCell} → Copies image s l j place at held
+copied_by : {image : Image} {s l j place at : ℕ} {held : RecordCell} → CopiesIndexCell image s l j place at held
     → IsCopied image (journal_at s l j + place) held
 copied_by {image} {s} {l} {j} {place} {at} {held} c = record {
   cell = c.entry;
@@ -48,7 +48,7 @@ copied_by {image} {s} {l} {j} {place} {at} {held} c = record {
 
 -- a jump leads to a block
 pub jump_led : {image : Image} {s : StoredSlot} {target : ℕ} → HasJump image s.start s.length s.journal target
-    → IsLed image s s.journal target 256
+    → IsLedByJournal image s s.journal target 256
 jump_led {image} {s} {target} j = record {
   place = j.0;
   below = j.2.below;
@@ -57,7 +57,7 @@ jump_led {image} {s} {target} j = record {
 
 -- a child leads to a node
 pub child_led : {image : Image} {s : StoredSlot} {target : ℕ} → HasChild image s.start s.length s.journal target
-    → IsLed image s s.journal target 32
+    → IsLedByJournal image s s.journal target 32
 child_led {image} {s} {target} j = record {
   place = j.0;
   below = j.2.below;
@@ -78,7 +78,7 @@ have_targets g image s met stored place less held c =
 module _ (image : Image) (s : StoredSlot) (targets : HaveTargets image s) where
   copies_by : (place : ℕ) → place < s.journal → (held : RecordCell) → IsIndexRecord held
       → (c : IsCopied image (journal_at s.start s.length s.journal + place) held)
-      → Copies image s.start s.length s.journal place (target_of c.cell) held
+      → CopiesIndexCell image s.start s.length s.journal place (target_of c.cell) held
   copies_by place less held index c = record {
     below = less;
     entry = c.cell;
@@ -89,7 +89,7 @@ module _ (image : Image) (s : StoredSlot) (targets : HaveTargets image s) where
   }
 
   -- what a place leads to is a jump's or a child's
-  pub led_by : (target size : ℕ) → IsLed image s s.journal target size
+  pub led_by : (target size : ℕ) → IsLedByJournal image s s.journal target size
       → ((size ≡ 256) × HasJump image s.start s.length s.journal target)
       ⊎ ((size ≡ 32) × HasChild image s.start s.length s.journal target)
   led_by target size led = ⊎_elim

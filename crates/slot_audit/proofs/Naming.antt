@@ -13,7 +13,7 @@ use Rattle.log_audit.specs.declared.stored.StoredSlot.{StoredSlot}
 use Rattle.log_audit.proofs.Storing.{one_row}
 use Rattle.slot_audit.specs.Copying.{HasTarget}
 use Rattle.slot_audit.proofs.Ordering.{copies, has_target}
-use Rattle.slot_audit.specs.Strays.{AreNamed, Names}
+use Rattle.slot_audit.specs.Strays.{AreNamed, NamesInJournal}
 use Rattle.slot_audit.specs.Targets.{NamesWithin, AddsTargets}
 use Rattle.slot_audit.specs.declared.named.NamedCells.{NamedCells}
 
@@ -74,7 +74,7 @@ module _ (image : Image) (s : StoredSlot) where
 -- what the slots below n name, and no more, is there
 pub record NamedBelow (g : Layout) (image : Image) (n : ℕ) (cells : List ℕ) : Type 0 where
   pub only : (cell : ℕ) → Contains cells cell → IsNamed g image cell
-  pub all : (m cell : ℕ) → m < n → Names g image m cell → Contains cells cell
+  pub all : (m cell : ℕ) → m < n → NamesInJournal g image m cell → Contains cells cell
 
 pub none_named : (g : Layout) (image : Image) (cells : List ℕ) → cells ≡ [] → NamedBelow g image 0 cells
 none_named g image cells none = record {

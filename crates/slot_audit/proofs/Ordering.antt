@@ -9,15 +9,15 @@ use Rattle.cell_types.specs.declared.record_cell.RecordCell.{RecordCell}
 use Rattle.cell_types.proofs.OneRecord.{address_in}
 use Rattle.volume_meaning.specs.Documents.{document_at}
 use Rattle.volume_meaning.proofs.Holding.{some_is}
-use Rattle.tamper_rules.specs.Journals.{journal_at, Copies, IsIndexCell}
+use Rattle.tamper_rules.specs.Journals.{journal_at, CopiesIndexCell, IsIndexCell}
 use Rattle.recovery_engine.specs.Entries.{target_of}
 use Rattle.log_audit.specs.declared.stored.StoredSlot.{StoredSlot}
 use Rattle.slot_audit.specs.Copying.{HasTarget}
-use Rattle.slot_audit.specs.Journals.{IsOrdered, Rises, journal_cell}
+use Rattle.slot_audit.specs.Journals.{IsOrdered, TargetRises, journal_cell}
 
 -- a copy's target
 pub has_target : {image : Image} {s l j place target : ℕ} {copied : RecordCell}
-    → Copies image s l j place target copied → HasTarget image (journal_at s l j + place) target
+    → CopiesIndexCell image s l j place target copied → HasTarget image (journal_at s l j + place) target
 has_target {image} {s} {l} {j} {place} {target} {copied} c =
     let same = address_in copied target c.entry c.address c.is in
     record {
@@ -33,7 +33,7 @@ one_target h k = let same = some_is h.cell k.cell (sym h.stands ∙ k.stands) in
 
 -- and is a copy
 pub copies : {image : Image} {s l j place target : ℕ} → place < j → target < 2 ^ 32
-    → (h : HasTarget image (journal_at s l j + place) target) → Copies image s l j place target (h.copy.held)
+    → (h : HasTarget image (journal_at s l j + place) target) → CopiesIndexCell image s l j place target (h.copy.held)
 copies below small h = record {
   below = below;
   entry = h.cell;
@@ -57,7 +57,7 @@ less_is a b h = grind (arith, nat_tests)
 -- behind another place
 pub rises_there : (image : Image) (s : StoredSlot) (place target lower : ℕ) → 1 ≤ place → place < s.journal
     → lower < 2 ^ 32 → HasTarget image (journal_cell s (place - 1)) lower
-    → (IsTrue (nat_lt lower target) ↔ Rises image s place target)
+    → (IsTrue (nat_lt lower target) ↔ TargetRises image s place target)
 rises_there image s place target lower some below small h = (
   λ less. inr (
     place - 1,
@@ -76,7 +76,7 @@ rises_there image s place target lower some below small h = (
 )
 
 pub rises_not : (image : Image) (s : StoredSlot) (place target : ℕ) → 1 ≤ place
-    → ((lower : ℕ) → HasTarget image (journal_cell s (place - 1)) lower → ⊥) → Rises image s place target → ⊥
+    → ((lower : ℕ) → HasTarget image (journal_cell s (place - 1)) lower → ⊥) → TargetRises image s place target → ⊥
 rises_not image s place target some none rises = ⊎_elim
     (λ (zero : place ≡ 0). omega (arith, zero, some))
     (λ w. let at : w.0 ≡ place - 1 = omega (arith, w.3, some) in
@@ -89,13 +89,13 @@ module _ (g : Layout) (image : Image) (s : StoredSlot) (place target : ℕ)
   pub same_target : (o : IsOrdered g image s place) → o.target ≡ target
   same_target o = one_target (has_target o.copies) seen
 
-  pub rises_so : IsOrdered g image s place → Rises image s place target
-  rises_so o = subst (Rises image s place) (same_target o) o.rises
+  pub rises_so : IsOrdered g image s place → TargetRises image s place target
+  rises_so o = subst (TargetRises image s place) (same_target o) o.rises
 
   pub index_so : IsOrdered g image s place → IsIndexCell g image s.slot target
   index_so o = subst (IsIndexCell g image s.slot) (same_target o) o.index
 
-  pub in_order : place < s.journal → target < 2 ^ 32 → Rises image s place target
+  pub in_order : place < s.journal → target < 2 ^ 32 → TargetRises image s place target
       → target < document_at s.start s.length s.bytes s.journal → IsIndexCell g image s.slot target
       → IsOrdered g image s place
   in_order below small rises before index = record {

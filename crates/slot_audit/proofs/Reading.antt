@@ -10,20 +10,20 @@ use Rattle.append_file.specs.declared.piece.ContentFault.{ContentFault}
 use Rattle.append_file.specs.declared.piece.ContentFault.TheVariants as faults
 use Rattle.document_store.specs.Heads.{DocumentEnds, id_of}
 use Rattle.document_store.specs.declared.head.Head.{Head}
-use Rattle.log_audit.specs.Kept.{image_of, view_of}
+use Rattle.log_audit.specs.Kept.{image_of_kept, view_of}
 use Rattle.log_audit.specs.declared.kept.KeptCells.{KeptCells}
 
 told : IsTrue true
 told = search rules
 
 -- a view of kept cells shows the same after each read
-pub same_kept : (a b : KeptCells) → Viewed (view_of a) (view_of b) → image_of b ≡ image_of a
+pub same_kept : (a b : KeptCells) → Viewed (view_of a) (view_of b) → image_of_kept b ≡ image_of_kept a
 same_kept a b viewed = same_image ((rests_of viewed).shown (record { same = refl; below = omega arith }))
 
 -- a document was read
 pub read_one : (a b : KeptCells) (start bytes : ℕ) (h : Head) → Viewed (view_of a) (view_of b)
     → DocumentEnds start bytes (view_of a) (view_of b) (Ok h)
-    → HasDocument (image_of a) start bytes
+    → HasDocument (image_of_kept a) start bytes
 read_one a b start bytes h viewed ends = subst (λ (i : Image). HasDocument i start bytes) (same_kept a b viewed) (record {
   id = id_of h;
   body = ends.1.body;
@@ -36,7 +36,7 @@ read_one a b start bytes h viewed ends = subst (λ (i : Image). HasDocument i st
 -- none was: nothing fails there but for its bytes
 pub read_none : (a b : KeptCells) (start bytes : ℕ) (fault : ContentFault) → Viewed (view_of a) (view_of b)
     → DocumentEnds start bytes (view_of a) (view_of b) (Err fault)
-    → HasDocument (image_of a) start bytes → ⊥
+    → HasDocument (image_of_kept a) start bytes → ⊥
 read_none a b start bytes faults.Broken viewed ends has =
     ends.1 told (subst (λ (i : Image). HasDocument i start bytes) (sym (same_kept a b viewed)) has)
 read_none a b start bytes faults.ReadFault viewed ends has = omega (arith, ends)

@@ -8,9 +8,9 @@ use Rattle.volume_meaning.specs.Documents.{document_at}
 use Rattle.volume_meaning.specs.Slots.{Stores}
 use Rattle.volume_meaning.specs.Volumes.{IsWritten}
 use Rattle.tamper_rules.specs.Rules.{HasDocument, DocumentRule, JournalRule, Journals, RedoneRule, number_of, Rule}
-use Rattle.log_audit.specs.Findings.{AreMetBelow, Finds, IsLeast}
+use Rattle.log_audit.specs.Findings.{AreMetBelow, FindsBroken, IsLeastBroken}
 use Rattle.log_audit.proofs.Numbers.{below_next}
-use Rattle.slot_audit.specs.Checking.{FindsFirst}
+use Rattle.slot_audit.specs.Checking.{FindsFirstBroken}
 use Rattle.log_audit.specs.Logs.{IsLog}
 use Rattle.log_audit.specs.Stored.{IsStored}
 use Rattle.log_audit.specs.declared.log.Log.{Log}
@@ -64,7 +64,7 @@ module _ {g : Layout} {image : Image} {log : Log} (is : IsLog g image log) where
   pub blank_is_least : {s : StoredSlot} (e : Evidence) → IsStored g image s → e.rule ≡ number_of Journals
       → e.cell ≡ outcome_at s.slot → image e.cell ≡ Some e.found
       → AreGoodTo g image (λ t q. IsWritten image (journal_cell t q)) s.slot → (AreWritten image s → ⊥)
-      → IsLeast g image Journals e
+      → IsLeastBroken g image Journals e
   blank_is_least {s} e stored number at stands good blank = record {
     number = number;
     place = inl (s.slot, inside, at);
@@ -96,6 +96,6 @@ redone_so {g} {image} {s} {place} {cell} stored less at o rule target h =
 
 -- the last of several rules, where those below it are kept
 pub found_last : (g : Layout) (image : Image) (rule : Rule) (found : Option Evidence) → AreMetBelow g image (number_of rule)
-    → Finds g image rule found → FindsFirst g image (number_of rule + 1) found
+    → FindsBroken g image rule found → FindsFirstBroken g image (number_of rule + 1) found
 found_last g image rule None lower finds = below_next rule lower finds
 found_last g image rule (Some e) lower finds = record { rule = rule; least = finds; lower = lower }

@@ -11,9 +11,9 @@ use Rattle.volume_meaning.specs.Documents.{document_at}
 use Rattle.tamper_rules.specs.Journals.{journal_at}
 use Rattle.tamper_rules.specs.Rules.{IsSize, TilingRule}
 use Rattle.log_audit.specs.declared.stored.StoredSlot.{StoredSlot}
-use Rattle.slot_audit.specs.Tables.{HaveTargets, HasAtLeast, IsLed, IsInOwnBlocks, IsTable, IsWithTile, Follow, ended, tile, LieWithin}
+use Rattle.slot_audit.specs.Tables.{HaveTargets, HasAtLeast, IsLedByJournal, IsInOwnBlocks, IsTable, IsWithTile, Follow, ended, tile, LieWithin}
 use Rattle.slot_audit.specs.Tiles.{HasTile}
-use Rattle.slot_audit.specs.Walks.{IsOwn, Walks, over, next}
+use Rattle.slot_audit.specs.Walks.{IsOwnTarget, WalksTiles, over, next}
 use Rattle.slot_audit.specs.declared.tile.Tile.{Tile}
 use Rattle.slot_audit.proofs.Leading.{jump_led, child_led, led_by, one_tile}
 use Rattle.slot_audit.proofs.Tiling.{walks_tell}
@@ -78,7 +78,7 @@ lies_outside {image} {at} {one} s has out t z here inside =
     ⊎_elim (λ less. omega (arith, less, same, inside.from)) (λ past. omega (arith, past, same, inside.to)) out
 
 module _ {image : Image} {s : StoredSlot} {p : ℕ} {old : ℕ → Option ℕ} (table : IsTable image s p old) where
-  more_places : {t z : ℕ} → IsLed image s p t z → IsLed image s (p + 1) t z
+  more_places : {t z : ℕ} → IsLedByJournal image s p t z → IsLedByJournal image s (p + 1) t z
   more_places led = record { place = led.place; below = omega (arith, led.below); has = led.has }
 
   -- a place of which no tile is to be kept
@@ -99,7 +99,7 @@ module _ {image : Image} {s : StoredSlot} {p : ℕ} {old : ℕ → Option ℕ} (
       → IsInOwnBlocks s one.target → IsWithTile old new one → IsTable image s (p + 1) new
   table_more {new} {one} has inside with = record {
     sound = λ t z is. ⊎_elim
-        (λ (same : t ≡ one.target). subst (λ (k : ℕ). IsLed image s (p + 1) k z × IsInOwnBlocks s k) (sym same)
+        (λ (same : t ≡ one.target). subst (λ (k : ℕ). IsLedByJournal image s (p + 1) k z × IsInOwnBlocks s k) (sym same)
         (there z (subst (λ (k : ℕ). new k ≡ Some z) same is)))
         (λ differ. let k = table.sound t z (sym (with.others t differ) ∙ is) in (more_places k.0, k.1))
         (cases_eq t one.target);
@@ -124,7 +124,7 @@ module _ {image : Image} {s : StoredSlot} {p : ℕ} {old : ℕ → Option ℕ} (
         (below_or_at led.place p led.below);
   }
     where
-      there : (z : ℕ) → new one.target ≡ Some z → IsLed image s (p + 1) one.target z × IsInOwnBlocks s one.target
+      there : (z : ℕ) → new one.target ≡ Some z → IsLedByJournal image s (p + 1) one.target z × IsInOwnBlocks s one.target
       there z is =
           let eq : z ≡ with.size = one_value new one.target z with.size is with.here in
           ⊎_elim
@@ -148,7 +148,7 @@ module _ (image : Image) (s : StoredSlot) (targets : HaveTargets image s) (sizes
 
   -- the tiles of the table are the slot's own, with their sizes
   key_own : (t z : ℕ) → sizes t ≡ Some z
-      → IsOwn image s.start s.length s.bytes s.journal t × IsSize image s.start s.length s.journal t z
+      → IsOwnTarget image s.start s.length s.bytes s.journal t × IsSize image s.start s.length s.journal t z
   key_own t z is =
       let k = table.sound t z is in
       ⊎_elim
@@ -163,7 +163,7 @@ module _ (image : Image) (s : StoredSlot) (targets : HaveTargets image s) (sizes
       ))
       (led_by image s targets t z k.0)
 
-  own_key : (t : ℕ) → IsOwn image s.start s.length s.bytes s.journal t → (z : ℕ) × (sizes t ≡ Some z)
+  own_key : (t : ℕ) → IsOwnTarget image s.start s.length s.bytes s.journal t → (z : ℕ) × (sizes t ≡ Some z)
   own_key t own = ⊎_elim
       (λ jump. let m = table.all t 256 (jump_led jump) (record { from = own.from; to = own.below }) in (m.0, m.1))
       (λ child. let m = table.all t 32 (child_led child) (record { from = own.from; to = own.below }) in (m.0, m.1))
@@ -175,14 +175,14 @@ module _ (image : Image) (s : StoredSlot) (targets : HaveTargets image s) (sizes
       (λ n. ⊎_elim (λ j. absurd (n.1 j.1)) (λ k. omega (arith, n.0, k.0)) b)
       a
 
-  follow_walk : (at : ℕ) → Follow sizes doc at → Walks image s.start s.length s.bytes s.journal doc at
+  follow_walk : (at : ℕ) → Follow sizes doc at → WalksTiles image s.start s.length s.bytes s.journal doc at
   follow_walk at (ended a same) = over a same
   follow_walk at (tile a size less is none rest) =
       next a size less (key_own a size is).0 (key_own a size is).1
       (λ t up down own. let k = own_key t own in none t k.0 up down k.1)
       (follow_walk (a + size) rest)
 
-  walk_follow : (at : ℕ) → Walks image s.start s.length s.bytes s.journal doc at → Follow sizes doc at
+  walk_follow : (at : ℕ) → WalksTiles image s.start s.length s.bytes s.journal doc at → Follow sizes doc at
   walk_follow at (over a same) = ended a same
   walk_follow at (next a size less own is none rest) =
       let k = own_key a own in

@@ -5,7 +5,7 @@ use Rattle.std.proofs.lemmas.Bool.{cases_order}
 use Rattle.cell_types.specs.Image.{Image}
 use Rattle.volume_meaning.specs.Documents.{document_at}
 use Rattle.tamper_rules.specs.Rules.{HasJump, IsSize, Tile}
-use Rattle.slot_audit.specs.Walks.{IsOwn, Walks, over, next, WalksTell}
+use Rattle.slot_audit.specs.Walks.{IsOwnTarget, WalksTiles, over, next, WalksTell}
 
 module _ (image : Image) (start reserved bytes journal : ℕ) where
   abbrev doc : ℕ
@@ -24,12 +24,12 @@ module _ (image : Image) (start reserved bytes journal : ℕ) where
       let k = rest_from xs (from + tile.1) to t tile.3 (i, omega (arith, below), is) in omega (arith, k)
 
   tiles_walk : (targets : List ℕ) (at : ℕ) → Tile image start reserved journal at doc targets
-      → ((t : ℕ) → at ≤ t → IsOwn image start reserved bytes journal t → Contains targets t)
-      → ((t : ℕ) → Contains targets t → IsOwn image start reserved bytes journal t)
-      → Walks image start reserved bytes journal doc at
+      → ((t : ℕ) → at ≤ t → IsOwnTarget image start reserved bytes journal t → Contains targets t)
+      → ((t : ℕ) → Contains targets t → IsOwnTarget image start reserved bytes journal t)
+      → WalksTiles image start reserved bytes journal doc at
   tiles_walk [] at tile all each = over at tile
   tiles_walk (x ∷ xs) at tile all each =
-      let own : IsOwn image start reserved bytes journal at = subst (IsOwn image start reserved bytes journal) tile.0 (each x (zero, omega arith, refl)) in
+      let own : IsOwnTarget image start reserved bytes journal at = subst (IsOwnTarget image start reserved bytes journal) tile.0 (each x (zero, omega arith, refl)) in
       let some = some_size x tile.1 tile.2 in
       next at tile.1 own.below own (subst (λ (t : ℕ). IsSize image start reserved journal t tile.1) tile.0 tile.2)
       (λ t more less is. behind t (omega (arith, more)) less more (all t (omega (arith, more)) is))
@@ -45,10 +45,10 @@ module _ (image : Image) (start reserved bytes journal : ℕ) where
       tail t from some (zero, below, is) = absurd (omega (arith, is, tile.0, from, some))
       tail t from some (suc i, below, is) = (i, omega (arith, below), is)
 
-  walk_tiles : (at : ℕ) → Walks image start reserved bytes journal doc at
+  walk_tiles : (at : ℕ) → WalksTiles image start reserved bytes journal doc at
       → (targets : List ℕ) × Tile image start reserved journal at doc targets
-      × ((t : ℕ) → at ≤ t → IsOwn image start reserved bytes journal t → Contains targets t)
-      × ((t : ℕ) → Contains targets t → (at ≤ t) × IsOwn image start reserved bytes journal t)
+      × ((t : ℕ) → at ≤ t → IsOwnTarget image start reserved bytes journal t → Contains targets t)
+      × ((t : ℕ) → Contains targets t → (at ≤ t) × IsOwnTarget image start reserved bytes journal t)
   walk_tiles at (over a same) = ([], same, λ t from own. absurd (omega (arith, own.below, same, from)), λ t c. absurd (omega (arith, c.1)))
   walk_tiles at (next a size less own is none rest) =
       let ts = walk_tiles (at + size) rest in (
@@ -69,9 +69,9 @@ module _ (image : Image) (start reserved bytes journal : ℕ) where
       split : (a b : ℕ) → (a < b) ⊎ (b ≤ a)
       split a b = grind arith
 
-      members : (t : ℕ) (xs : List ℕ) → ((t : ℕ) → Contains xs t → (at + size ≤ t) × IsOwn image start reserved bytes journal t) → Contains (at ∷ xs) t
-          → (at ≤ t) × IsOwn image start reserved bytes journal t
-      members t xs each (zero, below, is) = (omega (arith, is), subst (IsOwn image start reserved bytes journal) is own)
+      members : (t : ℕ) (xs : List ℕ) → ((t : ℕ) → Contains xs t → (at + size ≤ t) × IsOwnTarget image start reserved bytes journal t) → Contains (at ∷ xs) t
+          → (at ≤ t) × IsOwnTarget image start reserved bytes journal t
+      members t xs each (zero, below, is) = (omega (arith, is), subst (IsOwnTarget image start reserved bytes journal) is own)
       members t xs each (suc i, below, is) = let h = each t (i, omega (arith, below), is) in (omega (arith, h.0), h.1)
 
 pub walks_tell : WalksTell

@@ -3,9 +3,9 @@ use Rattle.std.specs.Prelude.{ℕ, Option, Some, None}
 use Rattle.cell_types.specs.Image.{Image}
 use Rattle.cell_types.specs.Layout.{Layout}
 use Rattle.cell_types.specs.declared.refusal.Evidence.{Evidence}
-use Rattle.log_audit.specs.Findings.{AreMetBelow, IsFirst}
+use Rattle.log_audit.specs.Findings.{AreMetBelow, IsFirstBroken}
 
 -- the first rule that is broken, and its first cell; or none, and each rule below this number is kept
-abbrev pub FindsFirst : Layout → Image → ℕ → Option Evidence → Type 0
-FindsFirst g image number None = AreMetBelow g image number
-FindsFirst g image number (Some e) = IsFirst g image e
+abbrev pub FindsFirstBroken : Layout → Image → ℕ → Option Evidence → Type 0
+FindsFirstBroken g image number None = AreMetBelow g image number
+FindsFirstBroken g image number (Some e) = IsFirstBroken g image e

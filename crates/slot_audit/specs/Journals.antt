@@ -5,9 +5,9 @@ use Rattle.cell_types.specs.Layout.{Layout}
 use Rattle.cell_types.specs.declared.record_cell.RecordCell.{RecordCell}
 use Rattle.cell_types.specs.declared.refusal.Evidence.{Evidence}
 use Rattle.volume_meaning.specs.Volumes.{IsWritten}
-use Rattle.tamper_rules.specs.Journals.{journal_at, Copies, IsInOrder}
+use Rattle.tamper_rules.specs.Journals.{journal_at, CopiesIndexCell, IsInOrder}
 use Rattle.tamper_rules.specs.Rules.{Rule, Journals, number_of}
-use Rattle.log_audit.specs.Findings.{IsLeast}
+use Rattle.log_audit.specs.Findings.{IsLeastBroken}
 use Rattle.log_audit.specs.Stored.{IsStored}
 use Rattle.log_audit.specs.declared.stored.StoredSlot.{StoredSlot}
 use Rattle.slot_audit.specs.Copying.{HasTarget}
@@ -29,11 +29,11 @@ abbrev pub IsOrdered : Layout → Image → StoredSlot → ℕ → Type 0
 IsOrdered g image s place = IsInOrder g image s.slot s.start s.length s.bytes s.journal place
 
 -- the place is the first, or the one before it copies a lower cell than this
-abbrev pub Rises : Image → StoredSlot → ℕ → ℕ → Type 0
-Rises image s place target =
+abbrev pub TargetRises : Image → StoredSlot → ℕ → ℕ → Type 0
+TargetRises image s place target =
     (place ≡ 0)
     ⊎ ((before : ℕ) × (lower : ℕ) × (other : RecordCell) × (place ≡ before + 1)
-    × Copies image s.start s.length s.journal before lower other × (lower < target))
+    × CopiesIndexCell image s.start s.length s.journal before lower other × (lower < target))
 
 -- if the cell copies another one, that one holds the same
 abbrev pub IsRedoneAt : Image → ℕ → Type 0
@@ -61,4 +61,4 @@ PlacesFind Good image rule s (Some e) = IsFirstPlace Good image rule s e
 -- what looking for blank journal cells answers
 abbrev pub BlankFinds : Layout → Image → Option Evidence → Type 0
 BlankFinds g image None = AreAllWritten g image
-BlankFinds g image (Some e) = IsLeast g image Journals e
+BlankFinds g image (Some e) = IsLeastBroken g image Journals e

@@ -5,7 +5,7 @@ use Rattle.cell_types.specs.Image.{Image}
 use Rattle.cell_types.specs.Layout.{Layout, spare_at, pool_at}
 use Rattle.cell_types.specs.declared.record_cell.RecordCell.{RecordCell}
 use Rattle.volume_meaning.specs.Slots.{IsDone, IsDoneSlot, IsEdge, HasStamp}
-use Rattle.tamper_rules.specs.Journals.{Copies, IsNamed}
+use Rattle.tamper_rules.specs.Journals.{CopiesIndexCell, IsNamed}
 use Rattle.tamper_rules.specs.Rules.{IsDoneIndexCell, IsTrueStamp}
 use Rattle.slot_audit.specs.declared.named.NamedCells.{NamedCells}
 
@@ -20,7 +20,7 @@ abbrev pub IsInTime : Layout → Image → ℕ → Type 0
 IsInTime g image cell = (n : ℕ) → n < g.slots → cell ≡ spare_at n → IsTrueStamp g image n
 
 -- slot m, which is done, names the cell in its journal
-pub record Names (g : Layout) (image : Image) (m cell : ℕ) : Type 0 where
+pub record NamesInJournal (g : Layout) (image : Image) (m cell : ℕ) : Type 0 where
   pub start : ℕ
   pub length : ℕ
   pub bytes : ℕ
@@ -28,7 +28,7 @@ pub record Names (g : Layout) (image : Image) (m cell : ℕ) : Type 0 where
   pub done : IsDone g image m start length bytes journal
   pub place : ℕ
   pub copied : RecordCell
-  pub copies : Copies image start length journal place cell copied
+  pub copies : CopiesIndexCell image start length journal place cell copied
 
 -- these are the cells that done slots name, in an order that doesn't fall
 pub record AreNamed (g : Layout) (image : Image) (named : NamedCells) : Type 0 where

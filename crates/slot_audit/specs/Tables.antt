@@ -17,7 +17,7 @@ HaveTargets image s =
     → (c : IsCopied image (journal_at s.start s.length s.journal + place) held) → target_of c.cell < 2 ^ 32
 
 -- one of the first places of the slot's journal leads to this tile
-pub record IsLed (image : Image) (s : StoredSlot) (places target size : ℕ) : Type 0 where
+pub record IsLedByJournal (image : Image) (s : StoredSlot) (places target size : ℕ) : Type 0 where
   pub place : ℕ
   pub below : place < places
   pub has : HasTile image (journal_at s.start s.length s.journal + place) (record { target = target; size = size })
@@ -30,8 +30,9 @@ pub record IsInOwnBlocks (s : StoredSlot) (target : ℕ) : Type 0 where
 -- These are the sizes of the tiles in the slot's own block part to which the first places of its journal lead: of each
 -- tile the greatest.
 pub record IsTable (image : Image) (s : StoredSlot) (places : ℕ) (sizes : ℕ → Option ℕ) : Type 0 where
-  pub sound : (target size : ℕ) → sizes target ≡ Some size → IsLed image s places target size × IsInOwnBlocks s target
-  pub all : (target size : ℕ) → IsLed image s places target size → IsInOwnBlocks s target
+  pub sound : (target size : ℕ) → sizes target ≡ Some size → IsLedByJournal image s places target size
+      × IsInOwnBlocks s target
+  pub all : (target size : ℕ) → IsLedByJournal image s places target size → IsInOwnBlocks s target
       → (most : ℕ) × (sizes target ≡ Some most) × (size ≤ most)
 
 -- a tile that begins where this one does is as large, or larger

@@ -2,7 +2,7 @@
 ghost use Rattle.std.specs.Prelude.{◌↔◌, IsTrue};
 ghost use Rattle.tamper_rules.specs.Journals.{IsIndexRecord};
 ghost use Rattle.recovery_engine.specs.Entries.{IsCopy};
-ghost use Rattle.log_audit.specs.Kept.{image_of};
+ghost use Rattle.log_audit.specs.Kept.{image_of_kept};
 ghost use Rattle.slot_audit.specs.Copying.{TargetEnds};
 
 use cell_types::{Cell, RecordCell, address_of, decode};
@@ -10,7 +10,7 @@ use log_audit::KeptCells;
 
 /// The cell of which a copy stands in this one, if one of an index cell does.
 pub fn target_at(kept: &KeptCells, at: u32) -> Option<u32>
-    ensures { TargetEnds (image_of kept.now) at result }
+    ensures { TargetEnds (image_of_kept kept.now) at result }
 {
     let Some(cell) = kept.at(at) else {
         return None;

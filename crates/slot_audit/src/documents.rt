@@ -2,8 +2,8 @@
 ghost use Rattle.std.specs.Prelude.{◌≤◌, ◌+◌, ◌↔◌, ◌≡◌, IsTrue};
 ghost use Rattle.volume_meaning.specs.Slots.{cells_for};
 ghost use Rattle.tamper_rules.specs.Rules.{HasDocument, Documents};
-ghost use Rattle.log_audit.specs.Kept.{image_of, count_of};
-ghost use Rattle.log_audit.specs.Findings.{Finds};
+ghost use Rattle.log_audit.specs.Kept.{image_of_kept, count_of};
+ghost use Rattle.log_audit.specs.Findings.{FindsBroken};
 ghost use Rattle.log_audit.specs.Logs.{IsLog};
 
 use cell_types::{Evidence, Geometry};
@@ -13,9 +13,9 @@ use tamper_rules::BROKEN_DOCUMENT;
 
 /// The first commit cell at which rule 4 is broken.
 pub fn first_broken_document(kept: &KeptCells, geometry: &Geometry, log: &Log) -> Option<Evidence>
-    requires log { IsLog geometry.now (image_of kept.now) log.now }
+    requires log { IsLog geometry.now (image_of_kept kept.now) log.now }
     requires count { count_of kept.now ≡ geometry.now.cells }
-    ensures { Finds geometry.now (image_of kept.now) Documents result }
+    ensures { FindsBroken geometry.now (image_of_kept kept.now) Documents result }
 {
     for slot in 0..geometry.slots() {
         let Some(stored) = stored_slot(kept, geometry, log, slot) else {
@@ -40,7 +40,7 @@ pub fn first_broken_document(kept: &KeptCells, geometry: &Geometry, log: &Log) -
 /// Whether so many stored bytes from this cell on spell a document.
 fn spells_document(kept: &KeptCells, start: u32, bytes: u32) -> bool
     requires { start + cells_for bytes ≤ count_of kept.now }
-    ensures { IsTrue result ↔ HasDocument (image_of kept.now) start bytes }
+    ensures { IsTrue result ↔ HasDocument (image_of_kept kept.now) start bytes }
 {
     let mut shown = Shown::new(kept);
     let Ok(_head) = read_document(&mut shown, start, bytes) else {

@@ -2,11 +2,11 @@
 ghost use Rattle.std.specs.Prelude.{◌<◌, ◌↔◌, IsTrue};
 ghost use Rattle.tamper_rules.specs.Journals.{IsIndexCell};
 ghost use Rattle.tamper_rules.specs.Rules.{ReserveCells};
-ghost use Rattle.log_audit.specs.Kept.{image_of};
+ghost use Rattle.log_audit.specs.Kept.{image_of_kept};
 ghost use Rattle.log_audit.specs.Findings.{IsMetAll};
 ghost use Rattle.log_audit.specs.Logs.{IsLog};
-ghost use Rattle.log_audit.specs.Stored.{HasCells};
-ghost use Rattle.slot_audit.specs.Journals.{IsOrdered, Rises};
+ghost use Rattle.log_audit.specs.Stored.{FitsInSlot};
+ghost use Rattle.slot_audit.specs.Journals.{IsOrdered, TargetRises};
 
 use crate::copies::target_at;
 use cell_types::Geometry;
@@ -20,11 +20,11 @@ pub fn is_in_order(
     stored: &StoredSlot,
     place: u32,
 ) -> bool
-    requires log { IsLog geometry.now (image_of kept.now) log.now }
-    requires met { IsMetAll geometry.now (image_of kept.now) ReserveCells }
-    requires cells { HasCells stored.now }
+    requires log { IsLog geometry.now (image_of_kept kept.now) log.now }
+    requires met { IsMetAll geometry.now (image_of_kept kept.now) ReserveCells }
+    requires cells { FitsInSlot stored.now }
     requires place { place < stored.now.journal }
-    ensures { IsTrue result ↔ IsOrdered geometry.now (image_of kept.now) stored.now place }
+    ensures { IsTrue result ↔ IsOrdered geometry.now (image_of_kept kept.now) stored.now place }
 {
     let Some(target) = target_at(kept, stored.journal_at() + place) else {
         return false;
@@ -40,9 +40,9 @@ pub fn is_in_order(
 
 /// Whether the place is the first, or the one before it copies a lower cell.
 fn rises(kept: &KeptCells, stored: &StoredSlot, place: u32, target: u32) -> bool
-    requires cells { HasCells stored.now }
+    requires cells { FitsInSlot stored.now }
     requires place { place < stored.now.journal }
-    ensures { IsTrue result ↔ Rises (image_of kept.now) stored.now place target }
+    ensures { IsTrue result ↔ TargetRises (image_of_kept kept.now) stored.now place target }
 {
     if place == 0 {
         return true;
@@ -55,9 +55,9 @@ fn rises(kept: &KeptCells, stored: &StoredSlot, place: u32, target: u32) -> bool
 
 /// Whether the cell is an index cell of this slot or a lower one.
 fn is_index_cell(kept: &KeptCells, geometry: &Geometry, log: &Log, slot: u32, cell: u32) -> bool
-    requires log { IsLog geometry.now (image_of kept.now) log.now }
-    requires met { IsMetAll geometry.now (image_of kept.now) ReserveCells }
-    ensures { IsTrue result ↔ IsIndexCell geometry.now (image_of kept.now) slot cell }
+    requires log { IsLog geometry.now (image_of_kept kept.now) log.now }
+    requires met { IsMetAll geometry.now (image_of_kept kept.now) ReserveCells }
+    ensures { IsTrue result ↔ IsIndexCell geometry.now (image_of_kept kept.now) slot cell }
 {
     // First blocks and the root stand in a row from the first list on, and the pool follows on them.
     if cell < geometry.pool_at() {

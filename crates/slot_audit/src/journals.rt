@@ -1,10 +1,10 @@
 //! Rule 5: journals.
 ghost use Rattle.std.specs.Prelude.{◌↔◌, IsTrue};
 ghost use Rattle.tamper_rules.specs.Rules.{Journals};
-ghost use Rattle.log_audit.specs.Kept.{image_of};
-ghost use Rattle.log_audit.specs.Findings.{Finds, AreMetBelow};
+ghost use Rattle.log_audit.specs.Kept.{image_of_kept};
+ghost use Rattle.log_audit.specs.Findings.{FindsBroken, AreMetBelow};
 ghost use Rattle.log_audit.specs.Logs.{IsLog};
-ghost use Rattle.log_audit.specs.Stored.{HasCells};
+ghost use Rattle.log_audit.specs.Stored.{FitsInSlot};
 ghost use Rattle.slot_audit.specs.Journals.{BlankFinds, AreAllWritten, AreWritten, IsOrdered, PlacesFind};
 
 use crate::entries::is_in_order;
@@ -15,9 +15,9 @@ use tamper_rules::BROKEN_JOURNAL;
 /// The first cell at which rule 5 is broken: the commit cell of a slot with a blank journal cell, or else a journal
 /// cell that is not in order.
 pub fn first_broken_journal(kept: &KeptCells, geometry: &Geometry, log: &Log) -> Option<Evidence>
-    requires log { IsLog geometry.now (image_of kept.now) log.now }
-    requires met { AreMetBelow geometry.now (image_of kept.now) 5 }
-    ensures { Finds geometry.now (image_of kept.now) Journals result }
+    requires log { IsLog geometry.now (image_of_kept kept.now) log.now }
+    requires met { AreMetBelow geometry.now (image_of_kept kept.now) 5 }
+    ensures { FindsBroken geometry.now (image_of_kept kept.now) Journals result }
 {
     // Each commit cell lies below each journal cell.
     if let Some(commit) = first_blank_journal(kept, geometry, log) {
@@ -28,8 +28,8 @@ pub fn first_broken_journal(kept: &KeptCells, geometry: &Geometry, log: &Log) ->
 
 /// The first commit cell of a slot whose journal has a blank cell.
 fn first_blank_journal(kept: &KeptCells, geometry: &Geometry, log: &Log) -> Option<Evidence>
-    requires { IsLog geometry.now (image_of kept.now) log.now }
-    ensures { BlankFinds geometry.now (image_of kept.now) result }
+    requires { IsLog geometry.now (image_of_kept kept.now) log.now }
+    ensures { BlankFinds geometry.now (image_of_kept kept.now) result }
 {
     for slot in 0..geometry.slots() {
         let Some(stored) = stored_slot(kept, geometry, log, slot) else {
@@ -53,8 +53,8 @@ fn first_blank_journal(kept: &KeptCells, geometry: &Geometry, log: &Log) -> Opti
 
 /// Whether each cell of a slot's journal is written.
 fn is_journal_written(kept: &KeptCells, stored: &StoredSlot) -> bool
-    requires { HasCells stored.now }
-    ensures { IsTrue result ↔ AreWritten (image_of kept.now) stored.now }
+    requires { FitsInSlot stored.now }
+    ensures { IsTrue result ↔ AreWritten (image_of_kept kept.now) stored.now }
 {
     let from = stored.journal_at();
     for place in 0..stored.journal {
@@ -67,10 +67,10 @@ fn is_journal_written(kept: &KeptCells, stored: &StoredSlot) -> bool
 
 /// The first journal cell that is not in order, where each is written.
 fn first_disorder(kept: &KeptCells, geometry: &Geometry, log: &Log) -> Option<Evidence>
-    requires log { IsLog geometry.now (image_of kept.now) log.now }
-    requires met { AreMetBelow geometry.now (image_of kept.now) 5 }
-    requires written { AreAllWritten geometry.now (image_of kept.now) }
-    ensures { Finds geometry.now (image_of kept.now) Journals result }
+    requires log { IsLog geometry.now (image_of_kept kept.now) log.now }
+    requires met { AreMetBelow geometry.now (image_of_kept kept.now) 5 }
+    requires written { AreAllWritten geometry.now (image_of_kept kept.now) }
+    ensures { FindsBroken geometry.now (image_of_kept kept.now) Journals result }
 {
     for slot in 0..geometry.slots() {
         let Some(stored) = stored_slot(kept, geometry, log, slot) else {
@@ -91,11 +91,11 @@ fn first_disorder_of(
     log: &Log,
     stored: &StoredSlot,
 ) -> Option<Evidence>
-    requires log { IsLog geometry.now (image_of kept.now) log.now }
-    requires met { AreMetBelow geometry.now (image_of kept.now) 5 }
-    requires cells { HasCells stored.now }
-    requires written { AreWritten (image_of kept.now) stored.now }
-    ensures { PlacesFind (IsOrdered geometry.now (image_of kept.now) stored.now) (image_of kept.now) Journals stored.now
+    requires log { IsLog geometry.now (image_of_kept kept.now) log.now }
+    requires met { AreMetBelow geometry.now (image_of_kept kept.now) 5 }
+    requires cells { FitsInSlot stored.now }
+    requires written { AreWritten (image_of_kept kept.now) stored.now }
+    ensures { PlacesFind (IsOrdered geometry.now (image_of_kept kept.now) stored.now) (image_of_kept kept.now) Journals stored.now
         result }
 {
     let from = stored.journal_at();

@@ -52,7 +52,7 @@ pub use journals::first_broken_journal;
 pub use laws::walks_tell;
 pub use named::NamedCells;
 pub use places::journal_place_of;
-pub use strays::first_stray;
+pub use strays::first_broken_stray;
 pub use targets::first_broken_target;
 pub use tile::{Tile, tile_at};
 pub use tilings::first_broken_tiling;

@@ -1,9 +1,9 @@
 //! The cells that journals name.
 ghost use Rattle.std.specs.Prelude.{◌↔◌, IsTrue, IfOk, OnOk, Contains};
 ghost use Rattle.std.specs.List.Sorted.{IsNonDecreasing};
-ghost use Rattle.log_audit.specs.Kept.{image_of};
+ghost use Rattle.log_audit.specs.Kept.{image_of_kept};
 ghost use Rattle.log_audit.specs.Logs.{IsLog};
-ghost use Rattle.log_audit.specs.Stored.{HasCells};
+ghost use Rattle.log_audit.specs.Stored.{FitsInSlot};
 ghost use Rattle.slot_audit.specs.Strays.{AreNamed};
 ghost use Rattle.slot_audit.specs.Targets.{AddsTargets};
 
@@ -38,8 +38,8 @@ pub(crate) fn named_cells(
     geometry: &Geometry,
     log: &Log,
 ) -> Result<NamedCells, NoMemory>
-    requires log { IsLog geometry.now (image_of kept.now) log.now }
-    ensures { IfOk result (λ named. AreNamed geometry.now (image_of kept.now) named) }
+    requires log { IsLog geometry.now (image_of_kept kept.now) log.now }
+    ensures { IfOk result (λ named. AreNamed geometry.now (image_of_kept kept.now) named) }
 {
     let mut cells = Vec::new(alloc);
     for slot in 0..geometry.slots() {
@@ -54,8 +54,8 @@ pub(crate) fn named_cells(
 
 /// Adds the cells that a slot's journal names.
 fn push_targets(kept: &KeptCells, stored: &StoredSlot, cells: &mut Vec<u32>) -> Result<(), NoMemory>
-    requires cells { HasCells stored.now }
-    ensures { OnOk result (AddsTargets (image_of kept.now) stored.now stored.now.journal cells.old.items
+    requires cells { FitsInSlot stored.now }
+    ensures { OnOk result (AddsTargets (image_of_kept kept.now) stored.now stored.now.journal cells.old.items
         cells.new.items) }
 {
     let first = stored.journal_at();

@@ -1,6 +1,6 @@
 //! Journal cells by their targets.
 ghost use Rattle.tamper_rules.specs.Rules.{Journals};
-ghost use Rattle.log_audit.specs.Kept.{image_of};
+ghost use Rattle.log_audit.specs.Kept.{image_of_kept};
 ghost use Rattle.log_audit.specs.Findings.{IsMetAll};
 ghost use Rattle.log_audit.specs.Stored.{IsStored};
 ghost use Rattle.slot_audit.specs.Places.{FindsPlace};
@@ -17,9 +17,9 @@ pub fn journal_place_of(
     stored: &StoredSlot,
     cell: u32,
 ) -> Option<u32>
-    requires stored { IsStored _geometry.now (image_of kept.now) stored.now }
-    requires met { IsMetAll _geometry.now (image_of kept.now) Journals }
-    ensures { FindsPlace (image_of kept.now) stored.now cell result }
+    requires stored { IsStored _geometry.now (image_of_kept kept.now) stored.now }
+    requires met { IsMetAll _geometry.now (image_of_kept kept.now) Journals }
+    ensures { FindsPlace (image_of_kept kept.now) stored.now cell result }
 {
     let from = stored.journal_at();
     let mut low = 0;

@@ -2,7 +2,7 @@
 ghost use Rattle.std.specs.Prelude.{◌≡◌, ◌<◌, ◌+◌, ◌↔◌, ℕ, IsTrue, IfSome, IfNone};
 ghost use Rattle.volume_meaning.specs.Slots.{HasStamp};
 ghost use Rattle.tamper_rules.specs.Rules.{IsTrueStamp, StrayCells};
-ghost use Rattle.log_audit.specs.Kept.{image_of};
+ghost use Rattle.log_audit.specs.Kept.{image_of_kept};
 ghost use Rattle.log_audit.specs.Least.{FindsPart};
 ghost use Rattle.log_audit.specs.Logs.{IsLog};
 ghost use Rattle.slot_audit.specs.Strays.{IsInTime, IsLatest};
@@ -17,8 +17,8 @@ pub(crate) fn first_false_stamp(
     geometry: &Geometry,
     log: &Log,
 ) -> Option<Evidence>
-    requires log { IsLog geometry.now (image_of kept.now) log.now }
-    ensures { FindsPart geometry.now (image_of kept.now) StrayCells (IsInTime geometry.now (image_of kept.now)) result }
+    requires log { IsLog geometry.now (image_of_kept kept.now) log.now }
+    ensures { FindsPart geometry.now (image_of_kept kept.now) StrayCells (IsInTime geometry.now (image_of_kept kept.now)) result }
 {
     let mut latest = None;
     for slot in 0..geometry.slots() {
@@ -42,8 +42,8 @@ pub(crate) fn first_false_stamp(
 /// Whether the spare cell of a slot holds a stamp in order, where this is the greatest stamp of the done slots below it.
 fn is_true_stamp(kept: &KeptCells, geometry: &Geometry, slot: u32, latest: Option<u32>) -> bool
     requires inside { slot < geometry.now.slots }
-    requires latest { IsLatest geometry.now (image_of kept.now) slot latest }
-    ensures { IsTrue result ↔ IsTrueStamp geometry.now (image_of kept.now) slot }
+    requires latest { IsLatest geometry.now (image_of_kept kept.now) slot latest }
+    ensures { IsTrue result ↔ IsTrueStamp geometry.now (image_of_kept kept.now) slot }
 {
     if geometry.version() != STAMPED_VERSION {
         return false;
@@ -63,8 +63,8 @@ fn is_true_stamp(kept: &KeptCells, geometry: &Geometry, slot: u32, latest: Optio
 /// The stamp of a slot, if it has one.
 fn stamp_at(kept: &KeptCells, geometry: &Geometry, slot: u32) -> Option<u32>
     requires inside { slot < geometry.now.slots }
-    ensures some { IfSome result (λ seconds. HasStamp (image_of kept.now) slot seconds) }
-    ensures none { IfNone result ((seconds : ℕ) → HasStamp (image_of kept.now) slot seconds → ⊥) }
+    ensures some { IfSome result (λ seconds. HasStamp (image_of_kept kept.now) slot seconds) }
+    ensures none { IfNone result ((seconds : ℕ) → HasStamp (image_of_kept kept.now) slot seconds → ⊥) }
 {
     let Some(held) = record_at(kept, geometry.spare_at(slot)) else {
         return None;
@@ -84,9 +84,9 @@ fn latest_with(
     latest: Option<u32>,
 ) -> Option<u32>
     requires inside { slot < geometry.now.slots }
-    requires log { IsLog geometry.now (image_of kept.now) log.now }
-    requires latest { IsLatest geometry.now (image_of kept.now) slot latest }
-    ensures { IsLatest geometry.now (image_of kept.now) (slot + 1) result }
+    requires log { IsLog geometry.now (image_of_kept kept.now) log.now }
+    requires latest { IsLatest geometry.now (image_of_kept kept.now) slot latest }
+    ensures { IsLatest geometry.now (image_of_kept kept.now) (slot + 1) result }
 {
     let Some(_stored) = stored_slot(kept, geometry, log, slot) else {
         return latest;

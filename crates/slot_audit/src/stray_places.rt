@@ -1,7 +1,7 @@
 //! Cells where nothing is expected.
 ghost use Rattle.std.specs.Prelude.{◌≡◌, ◌<◌, ◌↔◌, IsTrue};
 ghost use Rattle.tamper_rules.specs.Rules.{ReserveCells, StrayCells};
-ghost use Rattle.log_audit.specs.Kept.{image_of, count_of};
+ghost use Rattle.log_audit.specs.Kept.{image_of_kept, count_of};
 ghost use Rattle.log_audit.specs.Findings.{IsMetAll};
 ghost use Rattle.log_audit.specs.Least.{FindsPart};
 ghost use Rattle.log_audit.specs.Logs.{IsLog};
@@ -19,11 +19,11 @@ pub(crate) fn first_unexpected(
     log: &Log,
     named: &NamedCells,
 ) -> Option<Evidence>
-    requires log { IsLog geometry.now (image_of kept.now) log.now }
-    requires met { IsMetAll geometry.now (image_of kept.now) ReserveCells }
+    requires log { IsLog geometry.now (image_of_kept kept.now) log.now }
+    requires met { IsMetAll geometry.now (image_of_kept kept.now) ReserveCells }
     requires count { count_of kept.now ≡ geometry.now.cells }
-    requires named { AreNamed geometry.now (image_of kept.now) named.now }
-    ensures { FindsPart geometry.now (image_of kept.now) StrayCells (IsExpected geometry.now (image_of kept.now))
+    requires named { AreNamed geometry.now (image_of_kept kept.now) named.now }
+    ensures { FindsPart geometry.now (image_of_kept kept.now) StrayCells (IsExpected geometry.now (image_of_kept kept.now))
         result }
 {
     for place in 0..kept.written() {
@@ -49,10 +49,10 @@ fn is_expected(
     named: &NamedCells,
     cell: u32,
 ) -> bool
-    requires log { IsLog geometry.now (image_of kept.now) log.now }
-    requires met { IsMetAll geometry.now (image_of kept.now) ReserveCells }
-    requires named { AreNamed geometry.now (image_of kept.now) named.now }
-    ensures { IsTrue result ↔ IsExpected geometry.now (image_of kept.now) cell }
+    requires log { IsLog geometry.now (image_of_kept kept.now) log.now }
+    requires met { IsMetAll geometry.now (image_of_kept kept.now) ReserveCells }
+    requires named { AreNamed geometry.now (image_of_kept kept.now) named.now }
+    ensures { IsTrue result ↔ IsExpected geometry.now (image_of_kept kept.now) cell }
 {
     if cell < 4 {
         return cell == 0;

@@ -20,8 +20,8 @@
 //! `specs/Strays.antt` has the rule in its parts.
 ghost use Rattle.std.specs.Prelude.{◌≡◌, IfOk};
 ghost use Rattle.tamper_rules.specs.Rules.{ReserveCells, StrayCells};
-ghost use Rattle.log_audit.specs.Kept.{image_of, count_of};
-ghost use Rattle.log_audit.specs.Findings.{Finds, IsMetAll};
+ghost use Rattle.log_audit.specs.Kept.{image_of_kept, count_of};
+ghost use Rattle.log_audit.specs.Findings.{FindsBroken, IsMetAll};
 ghost use Rattle.log_audit.specs.Logs.{IsLog};
 
 use crate::named::named_cells;
@@ -36,16 +36,16 @@ use std::alloc::Global;
 /// # Errors
 ///
 /// `NoMemory`.
-pub fn first_stray(
+pub fn first_broken_stray(
     alloc: Global,
     kept: &KeptCells,
     geometry: &Geometry,
     log: &Log,
 ) -> Result<Option<Evidence>, NoMemory>
-    requires log { IsLog geometry.now (image_of kept.now) log.now }
-    requires met { IsMetAll geometry.now (image_of kept.now) ReserveCells }
+    requires log { IsLog geometry.now (image_of_kept kept.now) log.now }
+    requires met { IsMetAll geometry.now (image_of_kept kept.now) ReserveCells }
     requires count { count_of kept.now ≡ geometry.now.cells }
-    ensures { IfOk result (λ found. Finds geometry.now (image_of kept.now) StrayCells found) }
+    ensures { IfOk result (λ found. FindsBroken geometry.now (image_of_kept kept.now) StrayCells found) }
 {
     let named = named_cells(alloc, kept, geometry, log)?;
     let unexpected = first_unexpected(kept, geometry, log, &named);

@@ -2,8 +2,8 @@
 ghost use Rattle.std.specs.Prelude.{◌≡◌, ◌↔◌, IsTrue, IfOk, OnOk};
 ghost use Rattle.std.specs.Ordering.{nat_cmp};
 ghost use Rattle.std.specs.BTreeMap.{get};
-ghost use Rattle.log_audit.specs.Kept.{image_of};
-ghost use Rattle.log_audit.specs.Stored.{HasCells};
+ghost use Rattle.log_audit.specs.Kept.{image_of_kept};
+ghost use Rattle.log_audit.specs.Stored.{FitsInSlot};
 ghost use Rattle.slot_audit.specs.Tables.{HasAtLeast, IsTable, IsWithTile};
 
 use crate::tile::{Tile, tile_at};
@@ -18,9 +18,9 @@ pub(crate) fn tiles_of(
     kept: &KeptCells,
     stored: &StoredSlot,
 ) -> Result<BTreeMap<u32, u32>, NoMemory>
-    requires { HasCells stored.now }
+    requires { FitsInSlot stored.now }
     ensures { IfOk result (λ tiles.
-        IsTable (image_of kept.now) stored.now stored.now.journal (λ t. get nat_cmp tiles t)) }
+        IsTable (image_of_kept kept.now) stored.now stored.now.journal (λ t. get nat_cmp tiles t)) }
 {
     let mut tiles = BTreeMap::new(alloc);
     let from = stored.journal_at();

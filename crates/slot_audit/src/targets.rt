@@ -1,10 +1,10 @@
 //! Rule 6: the targets of journals.
 ghost use Rattle.std.specs.Prelude.{◌≡◌, ◌↔◌, Some, IsTrue};
 ghost use Rattle.tamper_rules.specs.Rules.{Targets};
-ghost use Rattle.log_audit.specs.Kept.{image_of};
-ghost use Rattle.log_audit.specs.Findings.{Finds, AreMetBelow};
+ghost use Rattle.log_audit.specs.Kept.{image_of_kept};
+ghost use Rattle.log_audit.specs.Findings.{FindsBroken, AreMetBelow};
 ghost use Rattle.log_audit.specs.Logs.{IsLog};
-ghost use Rattle.log_audit.specs.Stored.{HasCells};
+ghost use Rattle.log_audit.specs.Stored.{FitsInSlot};
 ghost use Rattle.slot_audit.specs.Journals.{IsRedone, IsRedoneAt, PlacesFind};
 
 use crate::copies::target_at;
@@ -15,9 +15,9 @@ use tamper_rules::OTHER_TARGET;
 /// The first journal cell at which rule 6 is broken. No slot of the log is merely committed, so each target holds the
 /// same as its copy.
 pub fn first_broken_target(kept: &KeptCells, geometry: &Geometry, log: &Log) -> Option<Evidence>
-    requires log { IsLog geometry.now (image_of kept.now) log.now }
-    requires met { AreMetBelow geometry.now (image_of kept.now) 6 }
-    ensures { Finds geometry.now (image_of kept.now) Targets result }
+    requires log { IsLog geometry.now (image_of_kept kept.now) log.now }
+    requires met { AreMetBelow geometry.now (image_of_kept kept.now) 6 }
+    ensures { FindsBroken geometry.now (image_of_kept kept.now) Targets result }
 {
     for slot in 0..geometry.slots() {
         let Some(stored) = stored_slot(kept, geometry, log, slot) else {
@@ -33,8 +33,8 @@ pub fn first_broken_target(kept: &KeptCells, geometry: &Geometry, log: &Log) -> 
 
 /// The first cell of a slot's journal whose target does not hold the same.
 fn first_undone_of(kept: &KeptCells, stored: &StoredSlot) -> Option<Evidence>
-    requires { HasCells stored.now }
-    ensures { PlacesFind (IsRedone (image_of kept.now) stored.now) (image_of kept.now) Targets stored.now result }
+    requires { FitsInSlot stored.now }
+    ensures { PlacesFind (IsRedone (image_of_kept kept.now) stored.now) (image_of_kept kept.now) Targets stored.now result }
 {
     let from = stored.journal_at();
     for place in 0..stored.journal {
@@ -56,8 +56,8 @@ fn first_undone_of(kept: &KeptCells, stored: &StoredSlot) -> Option<Evidence>
 
 /// Whether this cell, in which that stands, copies no index cell, or one that holds the same.
 fn is_redone(kept: &KeptCells, at: u32, own: Cell) -> bool
-    requires { image_of kept.now at ≡ Some own }
-    ensures { IsTrue result ↔ IsRedoneAt (image_of kept.now) at }
+    requires { image_of_kept kept.now at ≡ Some own }
+    ensures { IsTrue result ↔ IsRedoneAt (image_of_kept kept.now) at }
 {
     let Some(target) = target_at(kept, at) else {
         return true;

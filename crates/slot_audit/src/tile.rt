@@ -1,7 +1,7 @@
 //! Tiles, as journal cells state them.
 ghost use Rattle.std.specs.Prelude.{◌≡◌, Some, IfSome, IfNone};
 ghost use Rattle.cell_types.specs.declared.record_cell.RecordCell.{RecordCell};
-ghost use Rattle.log_audit.specs.Kept.{image_of};
+ghost use Rattle.log_audit.specs.Kept.{image_of_kept};
 ghost use Rattle.slot_audit.specs.Copied.{IsCopied};
 ghost use Rattle.slot_audit.specs.Tiles.{TileEnds, tile_in};
 
@@ -18,7 +18,7 @@ pub struct Tile {
 
 /// What a cell leads to, where a copy of a jump or of a child stands in it.
 pub fn tile_at(kept: &KeptCells, at: u32) -> Option<Tile>
-    ensures { TileEnds (image_of kept.now) at result }
+    ensures { TileEnds (image_of_kept kept.now) at result }
 {
     let Some(held) = copied_at(kept, at) else {
         return None;
@@ -28,9 +28,9 @@ pub fn tile_at(kept: &KeptCells, at: u32) -> Option<Tile>
 
 /// The record of which a copy stands in a cell, well-formed at the copy's own address.
 fn copied_at(kept: &KeptCells, at: u32) -> Option<RecordCell>
-    ensures some { IfSome result (λ held. IsCopied (image_of kept.now) at held) }
-    ensures none { IfNone result ((held : RecordCell) → IsCopied (image_of kept.now) at held → ⊥) }
-    ensures one { (held : RecordCell) → IsCopied (image_of kept.now) at held → result ≡ Some held }
+    ensures some { IfSome result (λ held. IsCopied (image_of_kept kept.now) at held) }
+    ensures none { IfNone result ((held : RecordCell) → IsCopied (image_of_kept kept.now) at held → ⊥) }
+    ensures one { (held : RecordCell) → IsCopied (image_of_kept kept.now) at held → result ≡ Some held }
 {
     let Some(cell) = kept.at(at) else {
         return None;

@@ -18,10 +18,10 @@
 //! `specs/Tiles.antt` says what a tile is.
 ghost use Rattle.std.specs.Prelude.{◌↔◌, IsTrue, IfOk};
 ghost use Rattle.tamper_rules.specs.Rules.{Journals, Tilings, TilingRule};
-ghost use Rattle.log_audit.specs.Kept.{image_of};
-ghost use Rattle.log_audit.specs.Findings.{Finds, IsMetAll};
+ghost use Rattle.log_audit.specs.Kept.{image_of_kept};
+ghost use Rattle.log_audit.specs.Findings.{FindsBroken, IsMetAll};
 ghost use Rattle.log_audit.specs.Logs.{IsLog};
-ghost use Rattle.log_audit.specs.Stored.{HasCells};
+ghost use Rattle.log_audit.specs.Stored.{FitsInSlot};
 ghost use Rattle.slot_audit.specs.Tables.{HaveTargets};
 
 use crate::back::follow;
@@ -42,9 +42,9 @@ pub fn first_broken_tiling(
     geometry: &Geometry,
     log: &Log,
 ) -> Result<Option<Evidence>, NoMemory>
-    requires log { IsLog geometry.now (image_of kept.now) log.now }
-    requires journals { IsMetAll geometry.now (image_of kept.now) Journals }
-    ensures { IfOk result (λ found. Finds geometry.now (image_of kept.now) Tilings found) }
+    requires log { IsLog geometry.now (image_of_kept kept.now) log.now }
+    requires journals { IsMetAll geometry.now (image_of_kept kept.now) Journals }
+    ensures { IfOk result (λ found. FindsBroken geometry.now (image_of_kept kept.now) Tilings found) }
 {
     for slot in 0..geometry.slots() {
         let Some(stored) = stored_slot(kept, geometry, log, slot) else {
@@ -68,9 +68,9 @@ pub fn first_broken_tiling(
 
 /// Whether the tiles that a slot's journal states tile its block part.
 fn is_tiled(alloc: Global, kept: &KeptCells, stored: &StoredSlot) -> Result<bool, NoMemory>
-    requires cells { HasCells stored.now }
-    requires targets { HaveTargets (image_of kept.now) stored.now }
-    ensures { IfOk result (λ tiled. IsTrue tiled ↔ TilingRule (image_of kept.now) stored.now.start stored.now.length
+    requires cells { FitsInSlot stored.now }
+    requires targets { HaveTargets (image_of_kept kept.now) stored.now }
+    ensures { IfOk result (λ tiled. IsTrue tiled ↔ TilingRule (image_of_kept kept.now) stored.now.start stored.now.length
         stored.now.bytes stored.now.journal) }
 {
     let tiles = tiles_of(alloc, kept, stored)?;

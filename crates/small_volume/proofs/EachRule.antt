@@ -11,7 +11,7 @@ use Rattle.volume_meaning.proofs.Holding.{one_record_holds}
 use Rattle.volume_meaning.proofs.OneDocument.{reserves}
 use Rattle.volume_meaning.specs.Blocks.{Leads, posting_record}
 use Rattle.volume_meaning.specs.Nodes.{IsNode}
-use Rattle.tamper_rules.specs.Journals.{Copies, IsNamed, IsInOrder, of_list, of_root, journal_at}
+use Rattle.tamper_rules.specs.Journals.{CopiesIndexCell, IsNamed, IsInOrder, of_list, of_root, journal_at}
 use Rattle.tamper_rules.specs.Rules
 use Rattle.tamper_rules.specs.Rules.{ReserveRule, OutcomeRule, DoneRule, HasDocument, JournalRule, RedoneRule, BlankRule, IsDoneIndexCell, EntryRule, HoldsInOrder, PointerRule, ChildRule, TilingRule}
 use Rattle.small_volume.specs.SmallVolume.{small_cells, small_image, small_layout, reserve_cell, hello_cell, world_cell, bucket_cell, a_fingerprint}
@@ -67,7 +67,7 @@ at_place P first second third (suc (suc zero)) below = third
 at_place P first second third (suc (suc (suc place))) below = absurd (omega arith)
 
 -- the journal's first place copies cell 36
-copies_36 : Copies small_image 580 4 3 0 36 (posting_record hello_posting)
+copies_36 : CopiesIndexCell small_image 580 4 3 0 36 (posting_record hello_posting)
 copies_36 = record {
   below = omega arith;
   entry = hello_cell;
@@ -78,7 +78,7 @@ copies_36 = record {
 }
 
 -- its second place copies cell 37
-copies_37 : Copies small_image 580 4 3 1 37 (posting_record world_posting)
+copies_37 : CopiesIndexCell small_image 580 4 3 1 37 (posting_record world_posting)
 copies_37 = record {
   below = omega arith;
   entry = world_cell;
@@ -89,7 +89,7 @@ copies_37 = record {
 }
 
 -- its third place copies cell 560
-copies_560 : Copies small_image 580 4 3 2 560 (Bucket 0 a_fingerprint)
+copies_560 : CopiesIndexCell small_image 580 4 3 2 560 (Bucket 0 a_fingerprint)
 copies_560 = record {
   below = omega arith;
   entry = bucket_cell;
@@ -148,10 +148,10 @@ journal_rule cell = record {
 }
 
 -- each target holds what its copy holds
-redone : (target : ℕ) (copied : RecordCell) (place : ℕ) → place < 3 → Copies small_image 580 4 3 place target copied
+redone : (target : ℕ) (copied : RecordCell) (place : ℕ) → place < 3 → CopiesIndexCell small_image 580 4 3 place target copied
     → small_image target ≡ small_image (581 + place)
 redone target copied = at_place
-    (λ place. Copies small_image 580 4 3 place target copied → small_image target ≡ small_image (581 + place))
+    (λ place. CopiesIndexCell small_image 580 4 3 place target copied → small_image target ≡ small_image (581 + place))
     (copied_to small_image 580 4 3 0 36 target copied hello_cell refl refl refl)
     (copied_to small_image 580 4 3 1 37 target copied world_cell refl refl refl)
     (copied_to small_image 580 4 3 2 560 target copied bucket_cell refl refl refl)
@@ -161,7 +161,7 @@ pub redone_rule : (cell : ℕ) → RedoneRule small_layout small_image cell
 redone_rule cell = record {
   done = λ n start reserved bytes journal place target copied d c at.
       of_one alone
-      (λ n start reserved bytes journal. Copies small_image start reserved journal place target copied
+      (λ n start reserved bytes journal. CopiesIndexCell small_image start reserved journal place target copied
       → small_image target ≡ small_image (journal_at start reserved journal + place))
       (λ c. redone target copied place c.below c) (record { commits = d.commits; done = inr d.done }) c
       ∙ ap small_image (sym at);
@@ -171,7 +171,7 @@ redone_rule cell = record {
 }
 
 -- what slot 0's journal copies is named
-named_by : (place cell : ℕ) (copied : RecordCell) → Copies small_image 580 4 3 place cell copied
+named_by : (place cell : ℕ) (copied : RecordCell) → CopiesIndexCell small_image 580 4 3 place cell copied
     → IsNamed small_layout small_image cell
 named_by place cell copied copies = record {
   m = 0;

@@ -11,8 +11,8 @@ use Rattle.volume_meaning.specs.Volumes.{Holds, IsWritten}
 use Rattle.volume_meaning.proofs.Holding.{some_is}
 use Rattle.volume_meaning.specs.Blocks.{Leads, arrived, onwards, pointer_at}
 use Rattle.volume_meaning.specs.Nodes.{IsNode, root, under}
-use Rattle.tamper_rules.specs.Journals.{Copies, journal_at}
-use Rattle.small_volume.specs.Images.{image_of}
+use Rattle.tamper_rules.specs.Journals.{CopiesIndexCell, journal_at}
+use Rattle.small_volume.specs.Images.{image_with}
 use Rattle.small_volume.specs.SmallVolume.{small_image, small_layout, small_cells}
 use Rattle.small_volume.proofs.OneSlot.{IsAlone}
 use Rattle.small_volume.proofs.Small.{slot_0}
@@ -24,10 +24,10 @@ IsOneOf [] cell = ⊥
 IsOneOf ((at, value) ∷ cells) cell = (cell ≡ at) ⊎ IsOneOf cells cell
 
 -- each written cell has
-pub one_of : (cells : List (ℕ × List ℕ)) (cell : ℕ) → IsWritten (image_of cells) cell → IsOneOf cells cell
+pub one_of : (cells : List (ℕ × List ℕ)) (cell : ℕ) → IsWritten (image_with cells) cell → IsOneOf cells cell
 one_of cells cell w = by cells w.stands
   where
-    by : (cells : List (ℕ × List ℕ)) → image_of cells cell ≡ Some w.found → IsOneOf cells cell
+    by : (cells : List (ℕ × List ℕ)) → image_with cells cell ≡ Some w.found → IsOneOf cells cell
     by [] stands = none-some w.found stands
     by ((at, first) ∷ cells) stands = elim (first_or_other at first cells cell) [
       | inl same ↦ inl same.0
@@ -36,26 +36,26 @@ one_of cells cell w = by cells w.stands
 
 -- where no cell of a row is a jump cell, no pointer is set
 no_pointer : (cells : List (ℕ × List ℕ)) → has_no 7 cells ≡ true → (cell target : ℕ)
-    → Holds (image_of cells) cell (Jump target) → ⊥
+    → Holds (image_with cells) cell (Jump target) → ⊥
 no_pointer cells none cell target h =
     none_of_kind 7 cells none cell h.cell h.stands (ap (λ v. slice_index v 0) h.is.same)
 
 -- so a list has its first block and no other
 pub heads_only : (cells : List (ℕ × List ℕ)) → has_no 7 cells ≡ true → {from to last block : ℕ}
-    → Leads (image_of cells) from to last block → block ≡ last
+    → Leads (image_with cells) from to last block → block ≡ last
 heads_only cells none (arrived block is) = is
 heads_only cells none (onwards block level digit target ls d1 d2 jump from to rest) =
     absurd (no_pointer cells none (pointer_at block level digit) target jump)
 
 -- where no cell of a row is a child cell, no node is under another
 no_child : (cells : List (ℕ × List ℕ)) → has_no 9 cells ≡ true → (cell target : ℕ)
-    → Holds (image_of cells) cell (Child target) → ⊥
+    → Holds (image_with cells) cell (Child target) → ⊥
 no_child cells none cell target h =
     none_of_kind 9 cells none cell h.cell h.stands (ap (λ v. slice_index v 0) h.is.same)
 
 -- so the root is the one node
 pub root_only : (g : Layout) (cells : List (ℕ × List ℕ)) → has_no 9 cells ≡ true → {v node : ℕ}
-    → IsNode g (image_of cells) v node → (v ≡ 0) × (node ≡ root_at g)
+    → IsNode g (image_with cells) v node → (v ≡ 0) × (node ≡ root_at g)
 root_only g cells none (root v node is at) = (is, at)
 root_only g cells none (under v node w above x is rest xs less child from to) =
     absurd (no_child cells none (above + 16 + x) node child)
@@ -67,7 +67,7 @@ address_of held = big_number 4 (drop 12 held)
 -- a journal cell that holds the same as the cell of its own number has that cell as its target
 pub copied_to : (image : Image) (start size journal place number target : ℕ) (copied : RecordCell) (held : List ℕ)
     → address_of held ≡ number → image number ≡ Some held → image (journal_at start size journal + place) ≡ Some held
-    → Copies image start size journal place target copied → image target ≡ image (journal_at start size journal + place)
+    → CopiesIndexCell image start size journal place target copied → image target ≡ image (journal_at start size journal + place)
 copied_to image start size journal place number target copied held read stands here c =
     let entry : c.entry ≡ held = some_is c.entry held (sym c.stands ∙ here) in
     let address : address_of c.entry ≡ target = address_in copied target c.entry c.address c.is in

@@ -14,7 +14,7 @@ use Rattle.volume_meaning.specs.HashPaths.{fingerprint_of, nibble}
 use Rattle.volume_meaning.specs.Nodes.{IsNode, root}
 use Rattle.volume_meaning.specs.Postings.{time_posting}
 use Rattle.volume_meaning.proofs.Fronts.{one_posting}
-use Rattle.tamper_rules.specs.Journals.{Copies, IsInOrder, IsNamed, journal_at, of_list, of_root}
+use Rattle.tamper_rules.specs.Journals.{CopiesIndexCell, IsInOrder, IsNamed, journal_at, of_list, of_root}
 use Rattle.tamper_rules.specs.Rules
 use Rattle.tamper_rules.specs.Rules.{ReserveRule, OutcomeRule, DoneRule, HasDocument, JournalRule, RedoneRule, BlankRule, IsDoneIndexCell, IsTrueStamp, EntryRule, HoldsInOrder, PostingRule, IsTruePosting, PointerRule, BucketRule, IsTrueBucket, ChildRule, TrailRule, PathRule, TilingRule}
 use Rattle.small_volume.specs.SmallVolume.{a_fingerprint, bucket_cell}
@@ -83,7 +83,7 @@ at_place P first second (suc zero) below = second
 at_place P first second (suc (suc place)) below = absurd (omega (arith, below))
 
 -- the journal's first place copies cell 560
-copies_560 : Copies stamped_image 836 3 2 0 560 (Bucket 0 a_fingerprint)
+copies_560 : CopiesIndexCell stamped_image 836 3 2 0 560 (Bucket 0 a_fingerprint)
 copies_560 = record {
   below = omega arith;
   entry = bucket_cell;
@@ -94,7 +94,7 @@ copies_560 = record {
 }
 
 -- its second place copies cell 580
-copies_580 : Copies stamped_image 836 3 2 1 580 (posting_record (time_posting 0 1000))
+copies_580 : CopiesIndexCell stamped_image 836 3 2 1 580 (posting_record (time_posting 0 1000))
 copies_580 = record {
   below = omega arith;
   entry = time_cell;
@@ -144,10 +144,10 @@ journal_rule cell = record {
 }
 
 -- each target holds what its copy holds
-redone : (target : ℕ) (copied : RecordCell) (place : ℕ) → place < 2 → Copies stamped_image 836 3 2 place target copied
+redone : (target : ℕ) (copied : RecordCell) (place : ℕ) → place < 2 → CopiesIndexCell stamped_image 836 3 2 place target copied
     → stamped_image target ≡ stamped_image (837 + place)
 redone target copied = at_place
-    (λ place. Copies stamped_image 836 3 2 place target copied → stamped_image target ≡ stamped_image (837 + place))
+    (λ place. CopiesIndexCell stamped_image 836 3 2 place target copied → stamped_image target ≡ stamped_image (837 + place))
     (copied_to stamped_image 836 3 2 0 560 target copied bucket_cell refl refl refl)
     (copied_to stamped_image 836 3 2 1 580 target copied time_cell refl refl refl)
 
@@ -156,7 +156,7 @@ pub redone_rule : (cell : ℕ) → RedoneRule stamped_layout stamped_image cell
 redone_rule cell = record {
   done = λ n start reserved bytes journal place target copied d c at.
       of_one alone
-      (λ n start reserved bytes journal. Copies stamped_image start reserved journal place target copied
+      (λ n start reserved bytes journal. CopiesIndexCell stamped_image start reserved journal place target copied
       → stamped_image target ≡ stamped_image (journal_at start reserved journal + place))
       (λ c. redone target copied place c.below c) (record { commits = d.commits; done = inr d.done }) c
       ∙ ap stamped_image (sym at);
@@ -166,7 +166,7 @@ redone_rule cell = record {
 }
 
 -- what slot 0's journal copies is named
-named_by : (place cell : ℕ) (copied : RecordCell) → Copies stamped_image 836 3 2 place cell copied
+named_by : (place cell : ℕ) (copied : RecordCell) → CopiesIndexCell stamped_image 836 3 2 place cell copied
     → IsNamed stamped_layout stamped_image cell
 named_by place cell copied copies = record {
   m = 0;

@@ -9,7 +9,7 @@ use Rattle.std.proofs.lemmas.List.Sums.{AllPass-from_list_all}
 use Rattle.std.proofs.lemmas.Option.{none-some}
 use Rattle.cell_types.specs.Bytes.{AreBytes}
 use Rattle.cell_types.specs.Image.{Image, Extends, ChangesOnly}
-use Rattle.small_volume.specs.Images.{image_of, with_cell, with_cells, or_else}
+use Rattle.small_volume.specs.Images.{image_with, with_cell, with_cells, or_else}
 use Rattle.volume_meaning.proofs.Holding.{some_is}
 
 -- whether the number is a byte
@@ -30,15 +30,15 @@ are_bytes bytes below = record {
 -- what stands in a cell: where it has the number of the row's first member, this one's value, and else what the others
 -- say
 pub first_or_other : (at : ℕ) (value : List ℕ) (cells : List (ℕ × List ℕ)) (cell : ℕ)
-    → ((cell ≡ at) × (image_of ((at, value) ∷ cells) cell ≡ Some value))
-    ⊎ ((cell ≢ at) × (image_of ((at, value) ∷ cells) cell ≡ image_of cells cell))
+    → ((cell ≡ at) × (image_with ((at, value) ∷ cells) cell ≡ Some value))
+    ⊎ ((cell ≢ at) × (image_with ((at, value) ∷ cells) cell ≡ image_with cells cell))
 first_or_other at value cells cell = elim (eqb_tells cell at) [
-  | inl same ↦ inl (same.1, ap (λ (b : Bool). if b then Some value else image_of cells cell) same.0)
-  | inr differ ↦ inr (differ.1, ap (λ (b : Bool). if b then Some value else image_of cells cell) differ.0)
+  | inl same ↦ inl (same.1, ap (λ (b : Bool). if b then Some value else image_with cells cell) same.0)
+  | inr differ ↦ inr (differ.1, ap (λ (b : Bool). if b then Some value else image_with cells cell) differ.0)
 ]
 
 -- no cell is written behind the last of a row
-pub blank_behind : (at cell : ℕ) (value : List ℕ) → at < cell → image_of ((at, value) ∷ []) cell ≡ None
+pub blank_behind : (at cell : ℕ) (value : List ℕ) → at < cell → image_with ((at, value) ∷ []) cell ≡ None
 blank_behind at cell value behind = elim (first_or_other at value [] cell) [
   | inl same ↦ absurd (omega (arith, same.0))
   | inr differ ↦ differ.1
@@ -51,7 +51,7 @@ has_no kind ((at, value) ∷ cells) = not (slice_index value 0 == kind) && has_n
 
 -- then none that stands has it
 pub none_of_kind : (kind : ℕ) (cells : List (ℕ × List ℕ)) → has_no kind cells ≡ true → (cell : ℕ) (value : List ℕ)
-    → image_of cells cell ≡ Some value → slice_index value 0 ≢ kind
+    → image_with cells cell ≡ Some value → slice_index value 0 ≢ kind
 none_of_kind kind [] none cell value stands is = none-some value stands
 none_of_kind kind ((at, first) ∷ cells) none cell value stands is =
     let both = and_parts (not (slice_index first 0 == kind)) (has_no kind cells) none in
@@ -65,8 +65,8 @@ none_of_kind kind ((at, first) ∷ cells) none cell value stands is =
 
 -- what stands in a cell once these are foreign, by what stood there
 with_was : (image : Image) (cells : List (ℕ × List ℕ)) (cell : ℕ) {was : Option (List ℕ)} → image cell ≡ was
-    → with_cells image cells cell ≡ or_else was (image_of cells cell)
-with_was image cells cell was = ap (λ (o : Option (List ℕ)). or_else o (image_of cells cell)) was
+    → with_cells image cells cell ≡ or_else was (image_with cells cell)
+with_was image cells cell was = ap (λ (o : Option (List ℕ)). or_else o (image_with cells cell)) was
 
 -- foreign cells leave each written one as it was
 pub foreign_extends : (image : Image) (cells : List (ℕ × List ℕ)) → Extends image (with_cells image cells)

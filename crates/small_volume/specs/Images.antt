@@ -4,9 +4,9 @@ use Rattle.cell_types.specs.Image.{Image, Extends, ChangesOnly}
 
 -- Each of these cells, by its number, holds these bytes, and each other one is blank. Of two with one number the first
 -- counts.
-abbrev pub image_of : List (ℕ × List ℕ) → Image
-image_of [] = λ cell. None
-image_of ((at, value) ∷ cells) = λ cell. if cell == at then Some value else image_of cells cell
+abbrev pub image_with : List (ℕ × List ℕ) → Image
+image_with [] = λ cell. None
+image_with ((at, value) ∷ cells) = λ cell. if cell == at then Some value else image_with cells cell
 
 -- what stands in a cell, or else this
 abbrev pub or_else : Option (List ℕ) → Option (List ℕ) → Option (List ℕ)
@@ -15,7 +15,7 @@ or_else None other = other
 
 -- The image with foreign cells: in each of these cells that was blank these bytes stand now. A written cell stays.
 abbrev pub with_cells : Image → List (ℕ × List ℕ) → Image
-with_cells image cells = λ cell. or_else (image cell) (image_of cells cell)
+with_cells image cells = λ cell. or_else (image cell) (image_with cells cell)
 
 -- the image with one foreign cell
 abbrev pub with_cell : Image → ℕ → List ℕ → Image

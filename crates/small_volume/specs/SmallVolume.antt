@@ -4,7 +4,7 @@ use Rattle.std.specs.Prelude.{ℕ, List, [], ◌∷◌, codes}
 use Rattle.cell_types.specs.Image.{Image}
 use Rattle.cell_types.specs.Layout.{Layout}
 use Rattle.volume_meaning.specs.Documents.{Document}
-use Rattle.small_volume.specs.Images.{image_of}
+use Rattle.small_volume.specs.Images.{image_with}
 
 -- 8 slots, 2 lists, 1,000 cells, version 1
 abbrev pub small_layout : Layout
@@ -79,7 +79,7 @@ small_cells =
 
 -- the small volume's image
 abbrev pub small_image : Image
-small_image = image_of small_cells
+small_image = image_with small_cells
 
 -- its one document
 abbrev pub small_document : Document
@@ -87,4 +87,4 @@ small_document = record { slot = 0; id = codes "a"; body = codes "hello world" }
 
 -- the image of a volume that has just been formatted: its volume cell alone
 abbrev pub formatted_image : Image
-formatted_image = image_of ((0, volume_cell) ∷ [])
+formatted_image = image_with ((0, volume_cell) ∷ [])

@@ -5,7 +5,7 @@ use Rattle.std.specs.Prelude.{ℕ, List, [], ◌∷◌, codes}
 use Rattle.cell_types.specs.Image.{Image}
 use Rattle.cell_types.specs.Layout.{Layout}
 use Rattle.volume_meaning.specs.Documents.{Document}
-use Rattle.small_volume.specs.Images.{image_of}
+use Rattle.small_volume.specs.Images.{image_with}
 use Rattle.small_volume.specs.SmallVolume.{done_cell, bucket_cell}
 
 -- 8 slots, 2 lists, 1,200 cells, version 3
@@ -56,7 +56,7 @@ stamped_cells =
 
 -- the stamped volume's image
 abbrev pub stamped_image : Image
-stamped_image = image_of stamped_cells
+stamped_image = image_with stamped_cells
 
 -- its one document
 abbrev pub stamped_document : Document

@@ -8,7 +8,7 @@ use Rattle.cell_types.specs.declared.record_cell.RecordCell.{RecordCell}
 use Rattle.cell_types.specs.declared.record_cell.RecordCell.TheVariants.{Commit, Abandon}
 use Rattle.volume_meaning.specs.Blocks.{PostingFields, posting_record}
 use Rattle.volume_meaning.specs.Documents.{Stands, stored_bytes, document_at}
-use Rattle.tamper_rules.specs.Journals.{journal_at, Copies}
+use Rattle.tamper_rules.specs.Journals.{journal_at, CopiesIndexCell}
 use Rattle.tamper_rules.specs.Rules
 use Rattle.tamper_rules.specs.Rules.{Rule, IsMet, ReserveRule, OutcomeRule, DoneRule, DocumentRule, HasDocument, JournalRule, RedoneRule, BlankRule, IsTrueStamp, IsDoneIndexCell, HoldsInOrder, EntryRule, IsTruePosting, PostingRule, LeadsWell, PointerRule, IsTrueBucket, BucketRule, LeadsDownWell, ChildRule, TrailRule, PathRule, HasJump, HasChild, IsSize, Tile, TilingRule}
 use Rattle.tamper_rules.specs.Settling.{IsSettled}
@@ -109,7 +109,7 @@ module _ {g : Layout} {old new : Image} {n start size : ℕ} (v : IsVolume g.cel
 
   copies_was : {m from reserved bytes journal place target : ℕ} {r : RecordCell}
       → Commits g old m from reserved bytes journal
-      → Copies new from reserved journal place target r → Copies old from reserved journal place target r
+      → CopiesIndexCell new from reserved journal place target r → CopiesIndexCell old from reserved journal place target r
   copies_was c k = copies_back u.keeps (entry_stood c k.below (record { found = k.entry; stands = k.stands })) k
 
   rule_6 : (cell : ℕ) → IsWritten new cell → RedoneRule g new cell

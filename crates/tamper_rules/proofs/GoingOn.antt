@@ -6,7 +6,7 @@ use Rattle.cell_types.specs.Records.{IsRecordCell}
 use Rattle.cell_types.specs.declared.record_cell.RecordCell.{RecordCell}
 use Rattle.cell_types.proofs.OneRecord.{one_record}
 use Rattle.volume_meaning.specs.Blocks.{Leads, arrived, onwards}
-use Rattle.tamper_rules.specs.Journals.{journal_at, Copies, LiesInBlocks, IsIndexCell, of_list, of_root, of_slot, IsNamed, IsInOrder}
+use Rattle.tamper_rules.specs.Journals.{journal_at, CopiesIndexCell, LiesInBlocks, IsIndexCell, of_list, of_root, of_slot, IsNamed, IsInOrder}
 use Rattle.volume_meaning.specs.Nodes.{IsOnPath, root, under}
 use Rattle.volume_meaning.specs.Slots.{Stores}
 use Rattle.volume_meaning.specs.Volumes.{IsWritten}
@@ -14,19 +14,19 @@ use Rattle.volume_meaning.proofs.Extending.{holds_on, commits_on, done_on}
 use Rattle.volume_meaning.proofs.Holding.{some_is}
 
 pub copies_on : {old new : Image} {start length journal place target : ℕ} {r : RecordCell} → Extends old new
-    → Copies old start length journal place target r → Copies new start length journal place target r
+    → CopiesIndexCell old start length journal place target r → CopiesIndexCell new start length journal place target r
 copies_on e c = record { below = c.below; entry = c.entry; stands = e.keeps _ _ c.stands; index = c.index; address = c.address; is = c.is }
 
 -- a place whose cell is written was copied from where it is written
 pub copies_back : {old new : Image} {start length journal place target : ℕ} {r : RecordCell} → Extends old new
-    → IsWritten old (journal_at start length journal + place) → Copies new start length journal place target r → Copies old start length journal place target r
+    → IsWritten old (journal_at start length journal + place) → CopiesIndexCell new start length journal place target r → CopiesIndexCell old start length journal place target r
 copies_back {old} {new} {start} {length} {journal} {place} e w c =
     let same : w.found ≡ c.entry = some_is w.found c.entry (sym (e.keeps _ _ w.stands) ∙ c.stands) in
     record { below = c.below; entry = c.entry; stands = w.stands ∙ ap (λ (v : List ℕ). Some v) same; index = c.index; address = c.address; is = c.is }
 
 -- a place of a journal has one target
 pub one_copy : (image : Image) (start length journal place t u : ℕ) (r s : RecordCell)
-    → (a : Copies image start length journal place t r) → (b : Copies image start length journal place u s) → (r ≡ s) × (t ≡ u) × (a.entry ≡ b.entry)
+    → (a : CopiesIndexCell image start length journal place t r) → (b : CopiesIndexCell image start length journal place u s) → (r ≡ s) × (t ≡ u) × (a.entry ≡ b.entry)
 one_copy image start length journal place t u r s a b =
     let same : a.entry ≡ b.entry = some_is a.entry b.entry (sym a.stands ∙ b.stands) in
     let one = one_record r s t u b.entry a.address b.address (subst (λ (v : List ℕ). IsRecordCell r t v) same a.is) b.is in
@@ -60,7 +60,7 @@ module _ {g : Layout} {old new : Image} (e : Extends old new) (blank : (n : ℕ)
     target = o.target;
     copied = o.copied;
     copies = copies_on e o.copies;
-    rises = ⊎_elim inl (λ (h : (before : ℕ) × (lower : ℕ) × (other : RecordCell) × (place ≡ before + 1) × Copies old start length journal before lower other × (lower < o.target)).
+    rises = ⊎_elim inl (λ (h : (before : ℕ) × (lower : ℕ) × (other : RecordCell) × (place ≡ before + 1) × CopiesIndexCell old start length journal before lower other × (lower < o.target)).
         inr (h.0, h.1, h.2, h.3, copies_on e h.4, h.5)) o.rises;
     before_document = o.before_document;
     index = index_on o.index;

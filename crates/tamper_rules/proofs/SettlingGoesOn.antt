@@ -4,8 +4,8 @@ use Rattle.std.proofs.lemmas.Option.{none-some}
 use Rattle.cell_types.specs.Image.{Image, Extends, IsUnchanged}
 use Rattle.cell_types.specs.Layout.{Layout, reserve_at, outcome_at, done_at, lists_at}
 use Rattle.cell_types.specs.declared.record_cell.RecordCell.{RecordCell}
-use Rattle.tamper_rules.specs.Journals.{journal_at, Copies, IsIndexCell, of_list, of_root, of_slot, IsInOrder}
-use Rattle.tamper_rules.specs.Settling.{Settled, IsOneHorizon, IsWith, AbandonRow, JournalRow, DoneRow, IsReady, After, nothing, abandoned, completed}
+use Rattle.tamper_rules.specs.Journals.{journal_at, CopiesIndexCell, IsIndexCell, of_list, of_root, of_slot, IsInOrder}
+use Rattle.tamper_rules.specs.Settling.{Settled, IsOneHorizon, IsWith, AbandonRow, JournalRow, DoneRow, IsReadyJournal, After, nothing, abandoned, completed}
 use Rattle.volume_meaning.specs.Slots.{IsCommitted, IsHorizon}
 use Rattle.volume_meaning.specs.Volumes.{IsWritten, IsVolume}
 use Rattle.volume_meaning.proofs.Extending.{volume_on, written_on, blank_before, commits_on}
@@ -21,7 +21,7 @@ behind_log (of_slot m le b) = omega (arith, b.from, b.stores.commits.reserves.fr
 
 -- so does each target of a journal in order
 pub target_behind_log : {g : Layout} {image : Image} {n start reserved bytes journal place target : ℕ} {r : RecordCell}
-    → ((k : ℕ) → k < journal → IsInOrder g image n start reserved bytes journal k) → Copies image start reserved journal place target r → lists_at g ≤ target
+    → ((k : ℕ) → k < journal → IsInOrder g image n start reserved bytes journal k) → CopiesIndexCell image start reserved journal place target r → lists_at g ≤ target
 target_behind_log {g} {image} {n} {start} {reserved} {bytes} {journal} {place} {target} {r} each c =
     let o = each place c.below in
     let same = one_copy image start reserved journal place target o.target r o.copied c o.copies in
@@ -52,7 +52,7 @@ module _ {cells : ℕ} {old after image : Image} (settled : Settled cells after)
       (look image (outcome_at n))
 
   module _ (g : Layout) (n start reserved bytes journal : ℕ) (v : IsVolume cells old g) (h : IsOneHorizon g old (n + 1)) (c : IsCommitted g old old n start reserved bytes journal)
-      (ready : IsReady g old n start reserved bytes journal)
+      (ready : IsReadyJournal g old n start reserved bytes journal)
       (w : IsWith (λ cell value. JournalRow old start reserved journal cell value ⊎ DoneRow n cell value) old after) where
     -- the log changes in the done cell alone
     log_was : (cell : ℕ) (value : List ℕ) → cell < lists_at g → (cell ≡ done_at n → ⊥)

@@ -22,7 +22,7 @@ IsIndexRecord _ = ⊥
 
 -- This place of the journal holds an exact copy of an index cell: of this record, well-formed in the cell target,
 -- which the copy's address names.
-pub record Copies (image : Image) (start length journal place target : ℕ) (copied : RecordCell) : Type 0 where
+pub record CopiesIndexCell (image : Image) (start length journal place target : ℕ) (copied : RecordCell) : Type 0 where
   pub below : place < journal
   pub entry : List ℕ
   pub stands : image (journal_at start length journal + place) ≡ Some entry
@@ -56,16 +56,16 @@ pub record IsNamed (g : Layout) (image : Image) (cell : ℕ) : Type 0 where
   pub done : IsDone g image m start length bytes journal
   pub place : ℕ
   pub copied : RecordCell
-  pub copies : Copies image start length journal place cell copied
+  pub copies : CopiesIndexCell image start length journal place cell copied
 
 -- Place of the journal of slot n is in order: it copies an index cell, a later one than the place before, of this
 -- slot's blocks or lower, and before this slot's document.
 pub record IsInOrder (g : Layout) (image : Image) (n start length bytes journal place : ℕ) : Type 0 where
   pub target : ℕ
   pub copied : RecordCell
-  pub copies : Copies image start length journal place target copied
+  pub copies : CopiesIndexCell image start length journal place target copied
   pub rises : (place ≡ 0)
       ⊎ ((before : ℕ) × (lower : ℕ) × (other : RecordCell) × (place ≡ before + 1)
-      × Copies image start length journal before lower other × (lower < target))
+      × CopiesIndexCell image start length journal before lower other × (lower < target))
   pub before_document : target < document_at start length bytes journal
   pub index : IsIndexCell g image n target

@@ -11,7 +11,7 @@ use Rattle.cell_types.specs.declared.record_cell.RecordCell.TheVariants.{Reserve
 use Rattle.volume_meaning.specs.Blocks.{PostingFields, posting_record, InFront, InSpan, pointer_at, Trail}
 use Rattle.volume_meaning.specs.Documents.{IsIdentifier, IsBody, Spells, Stands, stored_bytes, document_at}
 use Rattle.volume_meaning.specs.HashPaths.{HashTrail, fingerprint_of, nibble}
-use Rattle.tamper_rules.specs.Journals.{journal_at, Copies, LiesInBlocks, IsNamed, IsInOrder}
+use Rattle.tamper_rules.specs.Journals.{journal_at, CopiesIndexCell, LiesInBlocks, IsNamed, IsInOrder}
 use Rattle.volume_meaning.specs.Keeping.{sought_in}
 use Rattle.volume_meaning.specs.Nodes.{IsBlockOf, IsNode, IsOnPath, AreApart}
 use Rattle.volume_meaning.specs.Slots.{cells_for, Reserves, Stores, IsCommitted, IsDone, IsDoneSlot, HasEnded, EndsBelow, IsEdge, IsLive, HasStamp, IsStamped, IsStampOf}
@@ -76,11 +76,13 @@ pub record JournalRule (g : Layout) (image : Image) (cell : ℕ) : Type 0 where
 pub record RedoneRule (g : Layout) (image : Image) (cell : ℕ) : Type 0 where
   pub done : (n start reserved bytes journal place target : ℕ) (copied : RecordCell)
       → IsDone g image n start reserved bytes journal
-      → Copies image start reserved journal place target copied → cell ≡ journal_at start reserved journal + place
+      → CopiesIndexCell image start reserved journal place target copied
+      → cell ≡ journal_at start reserved journal + place
       → image target ≡ image cell
   pub committed : (n start reserved bytes journal place target : ℕ) (copied : RecordCell)
       → IsCommitted g image image n start reserved bytes journal
-      → Copies image start reserved journal place target copied → cell ≡ journal_at start reserved journal + place
+      → CopiesIndexCell image start reserved journal place target copied
+      → cell ≡ journal_at start reserved journal + place
       → (image target ≡ None) ⊎ (image target ≡ image cell)
 
 -- the cell lies in a first block, in the root, or in the block part of a slot that is done
@@ -248,12 +250,12 @@ pub record PathRule (g : Layout) (image : Image) (n : ℕ) (id : List ℕ) : Typ
 -- the journal has a jump cell to this target
 abbrev pub HasJump : Image → ℕ → ℕ → ℕ → ℕ → Type 0
 HasJump image start reserved journal target = (place : ℕ) × (at : ℕ)
-    × Copies image start reserved journal place at (Jump target)
+    × CopiesIndexCell image start reserved journal place at (Jump target)
 
 -- and a child cell to it
 abbrev pub HasChild : Image → ℕ → ℕ → ℕ → ℕ → Type 0
 HasChild image start reserved journal target = (place : ℕ) × (at : ℕ)
-    × Copies image start reserved journal place at (Child target)
+    × CopiesIndexCell image start reserved journal place at (Child target)
 
 -- so many cells belong to this target: 256 where a jump cell leads to it, and 32 otherwise
 abbrev pub IsSize : Image → ℕ → ℕ → ℕ → ℕ → ℕ → Type 0

@@ -6,7 +6,7 @@ use Rattle.cell_types.specs.Records.{IsRecordCell}
 use Rattle.cell_types.specs.declared.record_cell.RecordCell.{RecordCell}
 use Rattle.cell_types.specs.declared.record_cell.RecordCell.TheVariants.{Abandon, Done}
 use Rattle.volume_meaning.specs.Documents.{Document, AreDocuments}
-use Rattle.tamper_rules.specs.Journals.{journal_at, Copies, IsInOrder}
+use Rattle.tamper_rules.specs.Journals.{journal_at, CopiesIndexCell, IsInOrder}
 use Rattle.tamper_rules.specs.Rules.{Rule, IsMet}
 use Rattle.volume_meaning.specs.Slots.{IsReserved, IsCommitted, HasEnded, IsHorizon}
 use Rattle.volume_meaning.specs.Volumes.{IsWritten, IsVolume}
@@ -49,12 +49,12 @@ DoneRow n = RecordRow (Done n) (done_at n)
 pub record JournalRow (image : Image) (start reserved journal cell : ℕ) (value : List ℕ) : Type 0 where
   pub place : ℕ
   pub copied : RecordCell
-  pub copies : Copies image start reserved journal place cell copied
+  pub copies : CopiesIndexCell image start reserved journal place cell copied
   pub stands : image (journal_at start reserved journal + place) ≡ Some value
 
 -- the journal of slot n, which is committed, may be carried out: each of its cells is in order, and each target is
 -- blank or holds what it is to hold
-pub record IsReady (g : Layout) (image : Image) (n start reserved bytes journal : ℕ) : Type 0 where
+pub record IsReadyJournal (g : Layout) (image : Image) (n start reserved bytes journal : ℕ) : Type 0 where
   pub in_order : (place : ℕ) → place < journal → IsInOrder g image n start reserved bytes journal place
   pub free : (cell : ℕ) (value : List ℕ) → JournalRow image start reserved journal cell value
       → (image cell ≡ None) ⊎ (image cell ≡ Some value)
@@ -68,7 +68,7 @@ pub data After (cells : ℕ) (image after : Image) : Type 0 where
       → IsReserved g image image n start reserved → IsWith (AbandonRow n) image after → After cells image after
   completed : (g : Layout) (n start reserved bytes journal : ℕ) → IsVolume cells image g
       → IsOneHorizon g image (n + 1)
-      → IsCommitted g image image n start reserved bytes journal → IsReady g image n start reserved bytes journal
+      → IsCommitted g image image n start reserved bytes journal → IsReadyJournal g image n start reserved bytes journal
       → IsWith (λ cell value. JournalRow image start reserved journal cell value ⊎ DoneRow n cell value) image after
       → After cells image after
 

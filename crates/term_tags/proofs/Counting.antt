@@ -5,7 +5,7 @@ use Rattle.std.proofs.lemmas.List.{append-nil, drop_more, get_or_read, take_more
 use Rattle.std.proofs.lemmas.List.Elements.{Contains-get_or}
 use Rattle.std.proofs.lemmas.Option.{slice_get-get_or}
 use Rattle.term_tags.specs.Keys.{list_in, tags_at, AreInLists}
-use Rattle.term_tags.specs.Listing.{AllFit, AreCounts, row_of, rows_behind}
+use Rattle.term_tags.specs.Listing.{AllFit, AreCounts, posting_row, rows_behind}
 use Rattle.term_tags.specs.declared.rows.Posting.{Posting}
 use Rattle.term_tags.proofs.TagsAt.{at_most, both, here, in_list, one_of_all, other, there}
 
@@ -99,10 +99,10 @@ module _ {lists : ℕ} {keys counts : List ℕ} {at value : ℕ} (i : ℕ) (are 
 
 -- the row of a key is next
 pub next_row : (keys : List ℕ) (i : ℕ) → i < length keys → rows_behind keys (take i keys) (drop i keys)
-    ≡ row_of keys (take i keys) (slice_index keys i) ∷ rows_behind keys (take (i + 1) keys) (drop (i + 1) keys)
+    ≡ posting_row keys (take i keys) (slice_index keys i) ∷ rows_behind keys (take (i + 1) keys) (drop (i + 1) keys)
 next_row keys i less =
     ap (rows_behind keys (take i keys)) (drop_more keys i 0 less)
-    ∙ ap (λ (ks : List ℕ). row_of keys (take i keys) (slice_index keys i) ∷ rows_behind keys ks (drop (i + 1) keys))
+    ∙ ap (λ (ks : List ℕ). posting_row keys (take i keys) (slice_index keys i) ∷ rows_behind keys ks (drop (i + 1) keys))
     (sym (take_more keys i 0 less))
 
 -- a posting by its parts

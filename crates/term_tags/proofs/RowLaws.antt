@@ -10,13 +10,13 @@ use Rattle.volume_meaning.specs.Postings.{IsPostingOf, IsWordPosting, ListedPost
 use Rattle.volume_meaning.specs.Blocks.{PostingFields}
 use Rattle.volume_meaning.proofs.Tags.{tags_one}
 use Rattle.term_tags.specs.Keys.{list_in, tag_in, tags_at, AreInLists, AreKeys}
-use Rattle.term_tags.specs.Listing.{listed, row_of, rows_behind, rows_of}
+use Rattle.term_tags.specs.Listing.{listed, posting_row, rows_behind, posting_rows}
 use Rattle.term_tags.proofs.Bodies.{are_tags}
 use Rattle.term_tags.proofs.TagsAt.{key_at, keys_rise, member, one_more, one_of_all, tag_at}
 
 -- the posting of a key at a place, as one of slot n
 abbrev entry : ℕ → List ℕ → List ℕ → ℕ → ListedPosting
-entry n all before key = listed n (row_of all before key)
+entry n all before key = listed n (posting_row all before key)
 
 -- each key gives its row
 to_row : (n : ℕ) (all before keys : List ℕ) (i key : ℕ) → slice_get keys i ≡ Some key
@@ -43,7 +43,7 @@ record RowAt (n : ℕ) (keys : List ℕ) (i : ℕ) (a : ListedPosting) : Type 0 
   stands : slice_get keys i ≡ Some key
   is : entry n keys (take i keys) key ≡ a
 
-row_at : (n : ℕ) (keys : List ℕ) (i : ℕ) (a : ListedPosting) → slice_get (map (listed n) (rows_of keys)) i ≡ Some a
+row_at : (n : ℕ) (keys : List ℕ) (i : ℕ) (a : ListedPosting) → slice_get (map (listed n) (posting_rows keys)) i ≡ Some a
     → RowAt n keys i a
 row_at n keys i a p =
     let k = from_row n keys [] keys i a p in
@@ -95,7 +95,7 @@ module _ (g : Layout) (body : List ℕ) (terms : List (List ℕ)) (keys : List �
 
   -- and each posting of the document is the row of a key
   has_row : (l : ℕ) (p : PostingFields) → IsWordPosting g body n l p
-      → (i : ℕ) × (slice_get (map (listed n) (rows_of keys)) i ≡ Some (record { list = l; posting = p }))
+      → (i : ℕ) × (slice_get (map (listed n) (posting_rows keys)) i ≡ Some (record { list = l; posting = p }))
   has_row l p h =
       let all : h.tags ≡ tags_at l keys =
       tags_one g body l h.tags (tags_at l keys) h.are (are_tags g body terms keys words are l) in
@@ -113,7 +113,7 @@ module _ (g : Layout) (body : List ℕ) (terms : List (List ℕ)) (keys : List �
       )
 
   -- so the rows are the postings
-  pub are_postings : ArePostings g None body n (map (listed n) (rows_of keys))
+  pub are_postings : ArePostings g None body n (map (listed n) (posting_rows keys))
   are_postings = record {
     exist = record { each = λ l less. (tags_at l keys, are_tags g body terms keys words are l, fit l less) };
     order = λ i j a b less p q.

@@ -76,8 +76,8 @@ pub record IsFirstOver (counts : List ℕ) (l count : ℕ) : Type 0 where
   pub lowest : (m : ℕ) → m < l → slice_index counts m ≤ 256
 
 -- the posting of a key among all, behind those before it
-abbrev pub row_of : List ℕ → List ℕ → ℕ → Posting
-row_of all before key = record {
+abbrev pub posting_row : List ℕ → List ℕ → ℕ → Posting
+posting_row all before key = record {
   list = list_in key;
   ordinal = length (tags_at (list_in key) before);
   last = length (tags_at (list_in key) all) - 1;
@@ -87,8 +87,8 @@ row_of all before key = record {
 -- the postings of the keys behind those before them
 abbrev pub rows_behind : List ℕ → List ℕ → List ℕ → List Posting
 rows_behind all before [] = []
-rows_behind all before (key ∷ keys) = row_of all before key ∷ rows_behind all (before ++ key ∷ []) keys
+rows_behind all before (key ∷ keys) = posting_row all before key ∷ rows_behind all (before ++ key ∷ []) keys
 
 -- the postings of all keys
-abbrev pub rows_of : List ℕ → List Posting
-rows_of keys = rows_behind keys [] keys
+abbrev pub posting_rows : List ℕ → List Posting
+posting_rows keys = rows_behind keys [] keys

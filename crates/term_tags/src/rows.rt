@@ -1,7 +1,7 @@
 //! The postings of a document, by list and ordinal.
 ghost use Rattle.std.specs.Prelude.{◌≡◌, ◌≤◌, ◌<◌, ◌^◌, IfErr, IfOk, IfNone, IfSome, length};
 ghost use Rattle.term_tags.specs.Keys.{AreInLists};
-ghost use Rattle.term_tags.specs.Listing.{AreCounts, AllFit, GivesNone, GivesPostings, IsFirstOver, rows_of};
+ghost use Rattle.term_tags.specs.Listing.{AreCounts, AllFit, GivesNone, GivesPostings, IsFirstOver, posting_rows};
 
 use crate::keys::{distinct_keys, list_in, tag_in};
 use cell_types::Refusal;
@@ -78,7 +78,7 @@ fn rows(alloc: Global, keys: &[u64], counts: &[u32], lists: u16) -> Result<Vec<P
     requires below { AreInLists lists keys.now }
     requires counts { AreCounts lists keys.now counts.now }
     requires fit { AllFit counts.now lists }
-    ensures { IfOk result (λ rows. rows.items ≡ rows_of keys.now) }
+    ensures { IfOk result (λ rows. rows.items ≡ posting_rows keys.now) }
 {
     let mut rows = Vec::with_capacity(alloc, keys.len())?;
     let mut given = vec![in alloc; 0; usize::from(lists)]?;

@@ -31,7 +31,7 @@ use Rattle.jump_index.proofs.Telling.{told, told_before}
 use Rattle.posting_list.specs.Searches.{IsFalsePosting, head_of, within}
 use Rattle.posting_list.specs.declared.reach.Reach.{Reach}
 use Rattle.posting_list.proofs.Evidence.{false_named}
-use Rattle.time_index.specs.Matching.{IsEarlier, IsTimeMatchIn, MatchEnds, OrderEnds, ReadPartEnds, ReadsMatch, ReadsPart, StampedPartEnds, TimeFault, TimeRefuses, stamp_breach}
+use Rattle.time_index.specs.Matching.{IsEarlier, IsTimeMatchIn, MatchTimeEnds, OrderEnds, ReadPartEnds, ReadsMatch, ReadsPart, StampedPartEnds, TimeFault, TimeRefuses, stamp_breach}
 use Rattle.time_index.specs.declared.found.TimeMatch.{TimeMatch}
 use Rattle.time_index.specs.declared.matching.Stamped.{Stamped}
 use Rattle.time_index.proofs.Parts.{look_fails, of_lists, time_later}
@@ -182,7 +182,7 @@ module _ (r : Reach) (e : Entry) (before : Option Stamped) where
         part_read result reads = record { viewed = viewed_then viewed reads.viewed; ends = by_result result reads.ends }
           where
             by_result : (result : Result TimeMatch Refusal) → ReadPartEnds r.volume.geometry part e.key mid new result
-                → MatchEnds r e before old new result
+                → MatchTimeEnds r e before old new result
             by_result (Ok m) is = record {
               slot = omega (arith, is.slot_is, found.1);
               seconds = is.seconds_is;

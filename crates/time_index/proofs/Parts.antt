@@ -19,10 +19,10 @@ use Rattle.worm_device.specs.declared.device.Failed.{Failed}
 use Rattle.worm_device.proofs.Counting.{still_second}
 use Rattle.worm_device.proofs.Resting.{rests_of}
 use Rattle.commit_record.specs.Stamps.{IsStampOrNone, ReadsStamp}
-use Rattle.document_store.specs.Looks.{IsPartOf, LookFails, Names, PartEnds, of_document, of_state}
+use Rattle.document_store.specs.Looks.{IsPartOf, LookFails, NamesDocument, PartEnds, of_document, of_state}
 use Rattle.document_store.specs.declared.part.Part.{Part}
 use Rattle.document_store.proofs.Holding.{part_on}
-use Rattle.identifier_lookup.specs.Walks.{IsLicensed}
+use Rattle.identifier_lookup.specs.Walks.{IsPathLicensed}
 use Rattle.identifier_lookup.proofs.Licence.{names_licensed}
 use Rattle.jump_block.specs.Entries.{posting_of}
 use Rattle.jump_block.specs.declared.held_entry.Entry.{Entry}
@@ -63,7 +63,7 @@ edge_of r image reach = record {
 
 -- a look at a slot that fails
 module _ (r : Reach) (n : ℕ) (old new : ViewState) (viewed : Viewed old new) where
-  named_rule : (e : Evidence) → Names r.volume.geometry n old new e → IsTimeRule e.rule
+  named_rule : (e : Evidence) → NamesDocument r.volume.geometry n old new e → IsTimeRule e.rule
   named_rule e (of_state out) = inl (state_rule out.seen)
   named_rule e (of_document broken) = inr (inl broken.rule)
 
@@ -82,7 +82,7 @@ module _ (r : Reach) (n : ℕ) (old new : ViewState) (viewed : Viewed old new) w
     },
   )
     where
-      licensed : IsTrue old.base.tells → IsLicensed r.volume.geometry r.horizon r.bounds.edge old new e
+      licensed : IsTrue old.base.tells → IsPathLicensed r.volume.geometry r.horizon r.bounds.edge old new e
       licensed tells = names_licensed r.volume.geometry r.horizon r.bounds.edge n old new e viewed (fails.2 tells)
 
 -- the slot that a time posting names

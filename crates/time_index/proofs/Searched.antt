@@ -24,7 +24,7 @@ use Rattle.worm_device.proofs.Counting.{still_first, still_second}
 use Rattle.worm_device.proofs.Elapsing.{called_then}
 use Rattle.document_store.specs.Standing.{HoldsDocument}
 use Rattle.document_store.proofs.Holding.{held_is_one, held_on, held_stands, stands_held}
-use Rattle.posting_list.specs.Naming.{Shows}
+use Rattle.posting_list.specs.Naming.{ShowsListEvidence}
 use Rattle.posting_list.specs.declared.reach.Reach.{Reach}
 use Rattle.recovery_engine.specs.Settling.{SettleEnds, Settles, SettlesFirst}
 use Rattle.recovery_engine.specs.declared.settling.Ready.{Ready}
@@ -34,20 +34,20 @@ use Rattle.record_query.proofs.Loans.{viewed_by_any}
 use Rattle.record_query.proofs.Looking.{is_ready, looked_from, same_since, still_looking, still_settling, tells_settled, volume_now}
 use Rattle.record_query.proofs.Searched.{comes_to_settled, reach_is, walked}
 use Rattle.time_index.specs.Asking.{AsksStamps}
-use Rattle.time_index.specs.Gathering.{GatherEnds, Gathers, GathersOnDevice, SpanGathered}
+use Rattle.time_index.specs.Gathering.{GatherTimesEnds, GathersTimes, GathersOnDevice, SpanGathered}
 use Rattle.time_index.specs.Spans.{FindsBetween, FindsKeptSpan, FindsSpan, HasTimeMatch, IsStampedSlot, NamesTimeRule, ReadsBriefly, SearchesTimes, SpanEnds, all_cells_of, searched, unstamped}
 use Rattle.time_index.specs.declared.found.TimeMatch.{TimeMatch}
 use Rattle.time_index.specs.declared.span.TheConstants.{SPAN_READS}
 use Rattle.time_index.proofs.Matched.{one_stamp}
 
 -- the loan is not spoken of
-shows_by_any : (r : Reach) (new : DeviceState) (b : ℕ) → {e : Evidence} → Shows r (seen_directly new b) e
-    → Shows r (seen_directly new 0) e
+shows_by_any : (r : Reach) (new : DeviceState) (b : ℕ) → {e : Evidence} → ShowsListEvidence r (seen_directly new b) e
+    → ShowsListEvidence r (seen_directly new 0) e
 shows_by_any r new b shows tells = let is = shows tells in record { stands = is.stands; broken = is.broken }
 
 pub gathers_by_any : (ready : Ready) (from to : ℕ) (old new : DeviceState) (a b : ℕ)
     (result : Result (Vec TimeMatch) Refusal)
-    → Gathers (reach_of ready) from to (seen_directly old a) (seen_directly new b) result
+    → GathersTimes (reach_of ready) from to (seen_directly old a) (seen_directly new b) result
     → GathersOnDevice ready from to old new result
 gathers_by_any ready from to old new a b result g = record {
   viewed = viewed_by_any old new a b g.viewed;
@@ -55,8 +55,8 @@ gathers_by_any ready from to old new a b result g = record {
 }
   where
     by_result : (result : Result (Vec TimeMatch) Refusal)
-        → GatherEnds (reach_of ready) from to (seen_directly old a) (seen_directly new b) result
-        → GatherEnds (reach_of ready) from to (seen_directly old 0) (seen_directly new 0) result
+        → GatherTimesEnds (reach_of ready) from to (seen_directly old a) (seen_directly new b) result
+        → GatherTimesEnds (reach_of ready) from to (seen_directly old 0) (seen_directly new 0) result
     by_result (Ok matches) h = record { all = h.all; only = h.only; rise = h.rise; reads = h.reads }
     by_result (Err refusals.DeviceFault) h = h
     by_result (Err (refusals.Tampered e)) h = (
@@ -197,7 +197,7 @@ module _ (r : Ready) (from to : ℕ) (old settled new : DeviceState) (s : Settle
       }
 
     ends_of : (result : Result (Vec TimeMatch) Refusal)
-        → GatherEnds (reach_of r) from to (seen_directly settled 0) (seen_directly new 0) result
+        → GatherTimesEnds (reach_of r) from to (seen_directly settled 0) (seen_directly new 0) result
         → SpanEnds from to old new result
     ends_of (Ok matches) ends = λ tells. finds tells matches.items ends
     ends_of (Err refusals.NoMemory) ends = tt
@@ -216,14 +216,14 @@ module _ (r : Ready) (from to : ℕ) (old settled new : DeviceState) (s : Settle
     ends_of (Err refusal) ends = absurd ends
 
     rule_of : (result : Result (Vec TimeMatch) Refusal)
-        → GatherEnds (reach_of r) from to (seen_directly settled 0) (seen_directly new 0) result
+        → GatherTimesEnds (reach_of r) from to (seen_directly settled 0) (seen_directly new 0) result
         → NamesTimeRule old result
     rule_of (Ok matches) ends = tt
     rule_of (Err (refusals.Tampered e)) ends = λ tells. inr (ends.0 (tells_settled w tells)).rule
     rule_of (Err refusal) ends = tt
 
     reads_of : (result : Result (Vec TimeMatch) Refusal)
-        → GatherEnds (reach_of r) from to (seen_directly settled 0) (seen_directly new 0) result
+        → GatherTimesEnds (reach_of r) from to (seen_directly settled 0) (seen_directly new 0) result
         → ReadsBriefly 64 old new result
     reads_of (Ok matches) ends = λ tells still volume.
         brief old.reads settled.reads new.reads (length matches.items) (all_cells_of matches.items)

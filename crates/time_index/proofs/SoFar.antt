@@ -24,7 +24,7 @@ use Rattle.jump_index.proofs.LookingLater.{trail_then}
 use Rattle.jump_index.proofs.Telling.{told}
 use Rattle.posting_list.specs.Searches.{head_of}
 use Rattle.posting_list.specs.declared.reach.Reach.{Reach}
-use Rattle.time_index.specs.Gathering.{AreTimeMatches, Gathers, HasSlot, IsBehind, IsLastMatch, IsUpTo, SpanGathered, SpanSoFar, unanswered}
+use Rattle.time_index.specs.Gathering.{AreTimeMatches, GathersTimes, TellsSlot, IsBehind, IsLastMatch, IsSlotUpTo, SpanGathered, SpanSoFar, unanswered}
 use Rattle.time_index.specs.Matching.{IsEarlier, IsMatchOf, IsTimeMatchIn, ReadsMatch, TimeFault, TimeRefuses, cells_of}
 use Rattle.time_index.specs.Postings.{IsTimed, NextPosting, slot_named}
 use Rattle.time_index.specs.Spans.{SlotsRise, all_cells_of}
@@ -73,7 +73,7 @@ module _ (r : Reach) (from to : ℕ) where
 
   -- the whole span is answered for
   pub all_answered : {old now : ViewState} (matches : Vec TimeMatch) (last : Option Stamped)
-      → SpanSoFar r from to None old now matches.items last → Gathers r from to old now (Ok matches)
+      → SpanSoFar r from to None old now matches.items last → GathersTimes r from to old now (Ok matches)
   all_answered matches last so = record {
     viewed = so.viewed;
     ends = record { all = so.all; only = so.only; rise = so.rise; reads = omega (arith, so.reads) };
@@ -89,7 +89,7 @@ module _ (r : Reach) (from to : ℕ) where
 
     -- the postings could not be searched
     pub search_fails : {mid : ViewState} (fault : Fault) → NextPosting r key to now mid (Err fault)
-        → Gathers r from to old mid (Err (refusal_of_fault fault))
+        → GathersTimes r from to old mid (Err (refusal_of_fault fault))
     search_fails {mid} fault next = record {
       viewed = viewed_then so.viewed next.viewed;
       ends = refused fault (time_later r old now mid so.viewed next.viewed fault
@@ -103,7 +103,7 @@ module _ (r : Reach) (from to : ℕ) where
     -- there is no posting more
     pub none_left : {mid : ViewState} (found : Vec TimeMatch) → found.items ≡ matches
         → NextPosting r key to now mid (Ok None) → mid.base.reads ≤ now.base.reads + 8192
-        → Gathers r from to old mid (Ok found)
+        → GathersTimes r from to old mid (Ok found)
     none_left {mid} found same next costs = record {
       viewed = viewed_then so.viewed next.viewed;
       ends = subst (SpanGathered r from to old mid) (sym same) (record {
@@ -134,7 +134,7 @@ module _ (r : Reach) (from to : ℕ) where
 
       -- its document was not read
       pub match_fails : {new : ViewState} (refusal : Refusal) → ReadsMatch r e last mid new (Err refusal)
-          → Gathers r from to old new (Err refusal)
+          → GathersTimes r from to old new (Err refusal)
       match_fails {new} refusal reads = record {
         viewed = viewed_then (viewed_then so.viewed next.viewed) reads.viewed;
         ends = since refusal reads.ends;
@@ -156,10 +156,10 @@ module _ (r : Reach) (from to : ℕ) where
         told_mid tells = told next.viewed (told so.viewed tells)
 
         -- no memory was to be had for one more
-        pub not_kept : Gathers r from to old new (Err refusals.NoMemory)
+        pub not_kept : GathersTimes r from to old new (Err refusals.NoMemory)
         not_kept = record { viewed = viewed_then (viewed_then so.viewed next.viewed) reads.viewed; ends = tt }
 
-        old_slot : {n seconds : ℕ} → HasSlot matches n seconds → HasSlot (matches ++ m ∷ []) n seconds
+        old_slot : {n seconds : ℕ} → TellsSlot matches n seconds → TellsSlot (matches ++ m ∷ []) n seconds
         old_slot has = record {
           found = has.found;
           among = Contains-append_left matches (m ∷ []) has.found has.among;
@@ -169,7 +169,7 @@ module _ (r : Reach) (from to : ℕ) where
 
         -- the posting of this stamp is the one that was read
         its_slot : IsTrue old.base.tells → (at n seconds : ℕ) → n < 2 ^ 32 → IsTimed r old at (time_posting n seconds)
-            → key ≤ seconds → seconds ≤ e.key → HasSlot (matches ++ m ∷ []) n seconds
+            → key ≤ seconds → seconds ≤ e.key → TellsSlot (matches ++ m ∷ []) n seconds
         its_slot tells at n seconds small timed past upto =
             let first = next.ends.first (told so.viewed tells) at (time_posting n seconds)
             (on_now at (time_posting n seconds) timed) past in
@@ -201,7 +201,7 @@ module _ (r : Reach) (from to : ℕ) where
           below_slot : IsTrue old.base.tells → (o : TimeMatch) → Contains matches o → o.slot < m.slot
           below_slot tells o among = by_last last (so.up_to tells o among) (is.later (told_mid tells))
             where
-              by_last : (l : Option Stamped) → IsUpTo l o → IfSome l (λ b. b.slot < m.slot) → o.slot < m.slot
+              by_last : (l : Option Stamped) → IsSlotUpTo l o → IfSome l (λ b. b.slot < m.slot) → o.slot < m.slot
               by_last None none later = absurd none
               by_last (Some l) upto later = omega (arith, upto, later)
 

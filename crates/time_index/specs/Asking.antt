@@ -20,15 +20,15 @@ abbrev pub IsWithoutStamps : ℕ → Image → Type 0
 IsWithoutStamps cells image = (g : Layout) × IsVolume cells image g × (g.version < STAMPED_VERSION)
 
 -- How asking for it may end, and why: where there is no volume, as settling ends for that.
-abbrev pub StampsEnd : DeviceState → DeviceState → Result Unit Refusal → Type 0
-StampsEnd old new (Ok u) = (new.faults ≡ old.faults) × (IsTrue old.tells → IsOfStamps new.cells new.image)
-StampsEnd old new (Err NoStamps) =
+abbrev pub AskStampsEnd : DeviceState → DeviceState → Result Unit Refusal → Type 0
+AskStampsEnd old new (Ok u) = (new.faults ≡ old.faults) × (IsTrue old.tells → IsOfStamps new.cells new.image)
+AskStampsEnd old new (Err NoStamps) =
     (new.faults ≡ old.faults) × (IsTrue old.tells → IsWithoutStamps new.cells new.image)
-StampsEnd old new (Err DeviceFault) = SettleEnds old new (Err DeviceFault)
-StampsEnd old new (Err NotFormatted) = SettleEnds old new (Err NotFormatted)
-StampsEnd old new (Err (NotAVolume found)) = SettleEnds old new (Err (NotAVolume found))
-StampsEnd old new (Err (WrongSize stated real)) = SettleEnds old new (Err (WrongSize stated real))
-StampsEnd old new (Err refusal) = ⊥
+AskStampsEnd old new (Err DeviceFault) = SettleEnds old new (Err DeviceFault)
+AskStampsEnd old new (Err NotFormatted) = SettleEnds old new (Err NotFormatted)
+AskStampsEnd old new (Err (NotAVolume found)) = SettleEnds old new (Err (NotAVolume found))
+AskStampsEnd old new (Err (WrongSize stated real)) = SettleEnds old new (Err (WrongSize stated real))
+AskStampsEnd old new (Err refusal) = ⊥
 
 -- asking for it writes nothing, and costs one read at most
 pub record AsksStamps (old new : DeviceState) (result : Result Unit Refusal) : Type 0 where
@@ -36,4 +36,4 @@ pub record AsksStamps (old new : DeviceState) (result : Result Unit Refusal) : T
   pub called : Called old new
   pub quiet : IsStill old.foreign_writes new.foreign_writes → IsUnchanged old.image new.image
   pub reads : new.reads ≤ old.reads + 1
-  pub ends : StampsEnd old new result
+  pub ends : AskStampsEnd old new result

@@ -16,7 +16,7 @@ use Rattle.time_index.specs.declared.found.TimeMatch.{TimeMatch}
 use Rattle.time_index.specs.declared.matching.Stamped.{Stamped}
 
 -- one of the matches tells of this slot and this stamp
-pub record HasSlot (matches : List TimeMatch) (n seconds : ℕ) : Type 0 where
+pub record TellsSlot (matches : List TimeMatch) (n seconds : ℕ) : Type 0 where
   pub found : TimeMatch
   pub among : Contains matches found
   pub slot_is : found.slot ≡ n
@@ -26,7 +26,7 @@ pub record HasSlot (matches : List TimeMatch) (n seconds : ℕ) : Type 0 where
 abbrev pub AreAnswered : Reach → ViewState → ℕ → ℕ → List TimeMatch → Type 0
 AreAnswered r old from below matches =
     (at n seconds : ℕ) → n < 2 ^ 32 → IsTimed r old at (time_posting n seconds) → from ≤ seconds → seconds < below
-    → HasSlot matches n seconds
+    → TellsSlot matches n seconds
 
 -- each match tells of a document that its slot holds, and of the slot's stamp, which lies in the span
 abbrev pub AreTimeMatches : Reach → ViewState → ℕ → ℕ → List TimeMatch → Type 0
@@ -42,19 +42,20 @@ pub record SpanGathered (r : Reach) (from to : ℕ) (old new : ViewState) (match
   pub reads : new.base.reads ≤ old.base.reads + 8197 * (length matches + 1) + all_cells_of matches
 
 -- how gathering them may end, and why
-abbrev pub GatherEnds : Reach → ℕ → ℕ → ViewState → ViewState → Result (Vec TimeMatch) Refusal → Type 0
-GatherEnds r from to old new (Ok matches) = SpanGathered r from to old new matches.items
-GatherEnds r from to old new (Err refusal) = TimeRefuses r old new refusal
+abbrev pub GatherTimesEnds : Reach → ℕ → ℕ → ViewState → ViewState → Result (Vec TimeMatch) Refusal → Type 0
+GatherTimesEnds r from to old new (Ok matches) = SpanGathered r from to old new matches.items
+GatherTimesEnds r from to old new (Err refusal) = TimeRefuses r old new refusal
 
-pub record Gathers (r : Reach) (from to : ℕ) (old new : ViewState) (result : Result (Vec TimeMatch) Refusal) : Type 0 where
+pub record GathersTimes (r : Reach) (from to : ℕ) (old new : ViewState)
+    (result : Result (Vec TimeMatch) Refusal) : Type 0 where
   pub viewed : Viewed old new
-  pub ends : GatherEnds r from to old new result
+  pub ends : GatherTimesEnds r from to old new result
 
 -- gathering them on the device looks alone
 pub record GathersOnDevice (ready : Ready) (from to : ℕ) (old new : DeviceState) (result : Result (Vec TimeMatch) Refusal)
     : Type 0 where
   pub viewed : Viewed (seen_directly old 0) (seen_directly new 0)
-  pub ends : GatherEnds (reach_of ready) from to (seen_directly old 0) (seen_directly new 0) result
+  pub ends : GatherTimesEnds (reach_of ready) from to (seen_directly old 0) (seen_directly new 0) result
 
 -- the stamp from which to go on behind one of the span, `None` where this is its last
 abbrev pub IsBehind : ℕ → ℕ → Option ℕ → Type 0
@@ -67,9 +68,9 @@ unanswered None to = to + 1
 unanswered (Some next) to = next
 
 -- no match has a greater slot than this one, which has none where there is no match
-abbrev pub IsUpTo : Option Stamped → TimeMatch → Type 0
-IsUpTo None m = ⊥
-IsUpTo (Some last) m = m.slot ≤ last.slot
+abbrev pub IsSlotUpTo : Option Stamped → TimeMatch → Type 0
+IsSlotUpTo None m = ⊥
+IsSlotUpTo (Some last) m = m.slot ≤ last.slot
 
 -- the last match has this slot of the volume and this stamp, which is below the least that is not answered for
 pub record IsLastMatch (r : Reach) (now : ViewState) (below : ℕ) (last : Stamped) : Type 0 where
@@ -86,5 +87,5 @@ pub record SpanSoFar (r : Reach) (from to : ℕ) (next : Option ℕ) (old now : 
   pub all : IsTrue old.base.tells → AreAnswered r old from (unanswered next to) matches
   pub only : IsTrue old.base.tells → AreTimeMatches r now from to matches
   pub rise : IsTrue old.base.tells → SlotsRise 0 matches
-  pub up_to : IsTrue old.base.tells → (m : TimeMatch) → Contains matches m → IsUpTo last m
+  pub up_to : IsTrue old.base.tells → (m : TimeMatch) → Contains matches m → IsSlotUpTo last m
   pub last_is : IfSome last (IsLastMatch r now (unanswered next to))

@@ -19,7 +19,7 @@ use Rattle.document_store.specs.Standing.{HoldsDocument}
 use Rattle.document_store.specs.declared.part.Part.{Part}
 use Rattle.jump_block.specs.Entries.{posting_of}
 use Rattle.jump_block.specs.declared.held_entry.Entry.{Entry}
-use Rattle.posting_list.specs.Naming.{IsListRule, Shows}
+use Rattle.posting_list.specs.Naming.{IsListRule, ShowsListEvidence}
 use Rattle.posting_list.specs.declared.reach.Reach.{Reach}
 use Rattle.time_index.specs.Postings.{slot_named}
 use Rattle.time_index.specs.declared.found.TimeMatch.{TimeMatch}
@@ -31,7 +31,7 @@ IsTimeRule number = IsListRule number ⊎ (number ≡ BROKEN_DOCUMENT) ⊎ (numb
 
 -- the evidence is by a rule of a search by time and stands there, and where the bounds begin at the pool's start, in a
 -- place of its rule
-pub record IsNamed (r : Reach) (image : Image) (e : Evidence) : Type 0 where
+pub record IsTimeEvidence (r : Reach) (image : Image) (e : Evidence) : Type 0 where
   pub rule : IsTimeRule e.rule
   pub stands : image e.cell ≡ Some e.found
   pub place : r.bounds.pool ≡ pool_at r.volume.geometry → IsPlaceOf r.volume.geometry e.rule e.cell
@@ -41,8 +41,8 @@ pub record IsNamed (r : Reach) (image : Image) (e : Evidence) : Type 0 where
 abbrev pub TimeFault : Reach → ViewState → ViewState → Fault → Type 0
 TimeFault r old new faults.Failed = Rose old.base.faults new.base.faults
 TimeFault r old new (faults.Tampered e) =
-    (IsTrue old.base.tells → IsNamed r new.image e)
-    × (IsStill old.base.foreign_writes new.base.foreign_writes → Shows r new e)
+    (IsTrue old.base.tells → IsTimeEvidence r new.image e)
+    × (IsStill old.base.foreign_writes new.base.foreign_writes → ShowsListEvidence r new e)
 
 -- the same, as a command refuses
 abbrev pub TimeRefuses : Reach → ViewState → ViewState → Refusal → Type 0
@@ -105,14 +105,14 @@ pub record IsMatchOf (r : Reach) (e : Entry) (before : Option Stamped) (old new 
   pub reads : new.base.reads ≤ old.base.reads + 5 + cells_of m
 
 -- how reading the document of a posting may end, and why
-abbrev pub MatchEnds : Reach → Entry → Option Stamped → ViewState → ViewState → Result TimeMatch Refusal → Type 0
-MatchEnds r e before old new (Ok m) = IsMatchOf r e before old new m
-MatchEnds r e before old new (Err refusal) = TimeRefuses r old new refusal
+abbrev pub MatchTimeEnds : Reach → Entry → Option Stamped → ViewState → ViewState → Result TimeMatch Refusal → Type 0
+MatchTimeEnds r e before old new (Ok m) = IsMatchOf r e before old new m
+MatchTimeEnds r e before old new (Err refusal) = TimeRefuses r old new refusal
 
 pub record ReadsMatch (r : Reach) (e : Entry) (before : Option Stamped) (old new : ViewState)
     (result : Result TimeMatch Refusal) : Type 0 where
   pub viewed : Viewed old new
-  pub ends : MatchEnds r e before old new result
+  pub ends : MatchTimeEnds r e before old new result
 
 -- the match is the document of this part, with this stamp
 pub record IsReadMatch (g : Layout) (part : Part) (seconds : ℕ) (old new : ViewState) (m : TimeMatch) : Type 0 where

@@ -6,7 +6,7 @@ use Rattle.volume_meaning.specs.Blocks.{PostingFields}
 use Rattle.worm_device.specs.Views.{ViewState, Viewed}
 use Rattle.jump_block.specs.Entries.{posting_of}
 use Rattle.jump_block.specs.declared.held_entry.Entry.{Entry}
-use Rattle.jump_index.specs.Searches.{HasTrail, IsEntry, IsEntryBehind}
+use Rattle.jump_index.specs.Searches.{HasBoundedTrail, IsListEntry, IsEntryBehind}
 use Rattle.posting_list.specs.Naming.{FaultSays}
 use Rattle.posting_list.specs.Searches.{head_of, within}
 use Rattle.posting_list.specs.declared.reach.Reach.{Reach}
@@ -17,7 +17,7 @@ slot_named p = big_number 4 p.tag
 
 -- the posting in the cell at has a trail from the first block of the time list
 abbrev pub IsTimed : Reach → ViewState → ℕ → PostingFields → Type 0
-IsTimed r s at p = HasTrail r.bounds s (head_of r r.volume.geometry.lists) at p
+IsTimed r s at p = HasBoundedTrail r.bounds s (head_of r r.volume.geometry.lists) at p
 
 -- Of two entries, of which there may be no second, this is the second where it has the key of the first, and else the
 -- first.
@@ -30,7 +30,7 @@ IsOfKey first (Some second) e = ((second.key ≡ first.key) × (e ≡ second)) �
 pub record IsNextPosting (r : Reach) (from to : ℕ) (old new : ViewState) (e : Entry) : Type 0 where
   pub from_is : from ≤ e.key
   pub to_is : e.key ≤ to
-  pub entry : IsEntry old.cells e
+  pub entry : IsListEntry old.cells e
   pub behind : IsTrue old.base.tells
       → IsEntryBehind (within r) new.image (head_of r r.volume.geometry.lists) e
   pub first : IsTrue old.base.tells → (at : ℕ) (p : PostingFields) → IsTimed r old at p → from ≤ p.key

@@ -3,7 +3,7 @@ ghost use Rattle.std.specs.Prelude.{◌≡◌, ◌<◌, ◌≤◌, ◌+◌, IfSo
 ghost use Rattle.cell_types.specs.declared.geometry.TheConstants.{STAMPED_VERSION};
 ghost use Rattle.document_store.specs.Looks.{IsPartOf, IsStated};
 ghost use Rattle.jump_block.specs.Entries.{posting_of};
-ghost use Rattle.jump_index.specs.Searches.{IsEntry, IsEntryBehind};
+ghost use Rattle.jump_index.specs.Searches.{IsListEntry, IsEntryBehind};
 ghost use Rattle.posting_list.specs.Searches.{head_of, within};
 ghost use Rattle.volume_meaning.specs.Slots.{HasStamp, cells_for};
 ghost use Rattle.worm_device.specs.Views.{Viewed};
@@ -44,7 +44,7 @@ pub(crate) fn match_of<V: View>(
 ) -> Result<TimeMatch, Refusal>
     requires size { reach.now.volume.geometry.cells ≡ (V.seen view.old).cells }
     requires stamped { reach.now.volume.geometry.version ≡ STAMPED_VERSION }
-    requires entry { IsEntry (V.seen view.old).cells entry.now }
+    requires entry { IsListEntry (V.seen view.old).cells entry.now }
     requires behind { IsTrue (V.seen view.old).base.tells → IsEntryBehind (within reach.now) (V.seen view.old).image
         (head_of reach.now reach.now.volume.geometry.lists) entry.now }
     requires before { IfSome before (IsEarlier reach.now.volume.geometry (V.seen view.old) entry.now.key) }

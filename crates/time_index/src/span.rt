@@ -2,7 +2,7 @@
 ghost use Rattle.std.specs.Prelude.{◌≡◌, ◌≤◌};
 ghost use Rattle.cell_types.specs.declared.geometry.TheConstants.{STAMPED_VERSION};
 ghost use Rattle.record_query.specs.Reaching as reaching;
-ghost use Rattle.time_index.specs.Gathering.{Gathers, GathersOnDevice, IsBehind};
+ghost use Rattle.time_index.specs.Gathering.{GathersTimes, GathersOnDevice, IsBehind};
 ghost use Rattle.time_index.specs.Spans.{FindsBetween, SearchesTimes};
 
 use crate::found::TimeMatch;
@@ -107,7 +107,7 @@ fn gather<V: View>(
     requires order { from ≤ to }
     requires size { reach.now.volume.geometry.cells ≡ (V.seen view.old).cells }
     requires stamped { reach.now.volume.geometry.version ≡ STAMPED_VERSION }
-    ensures { Gathers reach.now from to (V.seen view.old) (V.seen view.new) result }
+    ensures { GathersTimes reach.now from to (V.seen view.old) (V.seen view.new) result }
 {
     let mut fronts = KeptFronts::new();
     let mut matches = Vec::new(alloc);

@@ -12,13 +12,13 @@ use Rattle.volume_meaning.specs.Nodes.{IsNode, root, under}
 use Rattle.volume_meaning.specs.Volumes.{Holds}
 use Rattle.volume_meaning.proofs.Holding.{one_record_holds}
 use Rattle.log_audit.proofs.OneMore.{get_before, get_last, length_pushed, below_or_at}
-use Rattle.tree_audit.specs.Nodes.{HasChild, IsTarget, AddsTargets, IsUnder, AreUnder, AreInside, AreOnLevel, AddsLevel, IsBefore, IsAmong, AreNodes}
+use Rattle.tree_audit.specs.Nodes.{HasChildInPool, IsTarget, AddsChildTargets, IsUnder, AreUnder, AreNodesInside, AreOnLevel, AddsLevel, IsBefore, IsAmongNodes, AreNodes}
 use Rattle.tree_audit.specs.declared.nodes.LevelNode.{LevelNode}
 
 -- these are the nodes of the levels below one, each once
 pub record AreNodesBelow (g : Layout) (image : Image) (levels : ℕ) (nodes : List LevelNode) : Type 0 where
   pub each : (i : ℕ) (n : LevelNode) → slice_get nodes i ≡ Some n → (n.level < levels) × IsNode g image n.level n.node
-  pub all : (level node : ℕ) → level < levels → IsNode g image level node → IsAmong nodes level node
+  pub all : (level node : ℕ) → level < levels → IsNode g image level node → IsAmongNodes nodes level node
   pub rising : (i j : ℕ) (a b : LevelNode) → i < j → slice_get nodes i ≡ Some a → slice_get nodes j ≡ Some b
       → IsBefore a b
 
@@ -29,11 +29,11 @@ same_default (x ∷ xs) zero a b less = refl
 same_default (x ∷ xs) (suc k) a b less = same_default xs k a b (omega (arith, less))
 
 -- a child cell leads to one node
-pub one_target : {g : Layout} {image : Image} {at a b : ℕ} → HasChild g image at a → HasChild g image at b → a ≡ b
+pub one_target : {g : Layout} {image : Image} {at a b : ℕ} → HasChildInPool g image at a → HasChildInPool g image at b → a ≡ b
 one_target {g} {image} {at} {a} {b} h k = let e = one_record_holds image at (Child a) (Child b) h.held k.held in cc
 
 -- no child cell was looked at yet
-pub no_targets : (g : Layout) (image : Image) (node : ℕ) (old : List ℕ) → AddsTargets g image node 16 old old
+pub no_targets : (g : Layout) (image : Image) (node : ℕ) (old : List ℕ) → AddsChildTargets g image node 16 old old
 no_targets g image node old = record {
   each = λ target. (
     λ h. inl h,
@@ -42,8 +42,8 @@ no_targets g image node old = record {
 }
 
 -- one place more, at which no child cell leads on
-pub no_child : {g : Layout} {image : Image} {node place : ℕ} {old new : List ℕ} → AddsTargets g image node place old new
-    → ((target : ℕ) → HasChild g image (node + place) target → ⊥) → AddsTargets g image node (place + 1) old new
+pub no_child : {g : Layout} {image : Image} {node place : ℕ} {old new : List ℕ} → AddsChildTargets g image node place old new
+    → ((target : ℕ) → HasChildInPool g image (node + place) target → ⊥) → AddsChildTargets g image node (place + 1) old new
 no_child {g} {image} {node} {place} {old} {new} adds none = record {
   each = λ target. (
     λ h. ⊎_elim
@@ -54,15 +54,15 @@ no_child {g} {image} {node} {place} {old} {new} adds none = record {
         inl
         (λ (t : IsTarget g image node (place + 1) target). ⊎_elim
         (λ (less : t.place < place). inr (record { place = t.place; from = t.from; to = less; leads = t.leads }))
-        (λ (same : t.place ≡ place). absurd (none target (subst (λ (q : ℕ). HasChild g image (node + q) target) same t.leads)))
+        (λ (same : t.place ≡ place). absurd (none target (subst (λ (q : ℕ). HasChildInPool g image (node + q) target) same t.leads)))
         (below_or_at t.place place t.to))
         h),
   );
 }
 
 -- and one at which a child cell does
-pub one_child : {g : Layout} {image : Image} {node place to : ℕ} {old new after : List ℕ} → AddsTargets g image node place old new
-    → 16 ≤ place → HasChild g image (node + place) to → after ≡ new ++ to ∷ [] → AddsTargets g image node (place + 1) old after
+pub one_child : {g : Layout} {image : Image} {node place to : ℕ} {old new after : List ℕ} → AddsChildTargets g image node place old new
+    → 16 ≤ place → HasChildInPool g image (node + place) to → after ≡ new ++ to ∷ [] → AddsChildTargets g image node (place + 1) old after
 one_child {g} {image} {node} {place} {to} {old} {new} {after} adds low leads is = record {
   each = λ target. (
     λ h. ⊎_elim
@@ -70,7 +70,7 @@ one_child {g} {image} {node} {place} {to} {old} {new} {after} adds low leads is 
         inl
         (λ (t : IsTarget g image node place target). inr (record { place = t.place; from = t.from; to = omega (arith, t.to); leads = t.leads }))
         ((adds.each target).0 before))
-        (λ (same : to ≡ target). inr (record { place = place; from = low; to = omega arith; leads = subst (HasChild g image (node + place)) same leads }))
+        (λ (same : to ≡ target). inr (record { place = place; from = low; to = omega arith; leads = subst (HasChildInPool g image (node + place)) same leads }))
         (Contains-push_cases new to target (subst (λ (xs : List ℕ). Contains xs target) is h)),
     λ h. subst (λ (xs : List ℕ). Contains xs target) (sym is) (⊎_elim
         (λ (before : Contains old target). Contains-append_left new (to ∷ []) target ((adds.each target).1 (inl before)))
@@ -78,7 +78,7 @@ one_child {g} {image} {node} {place} {to} {old} {new} {after} adds low leads is 
         (λ (less : t.place < place). Contains-append_left new (to ∷ []) target
         ((adds.each target).1 (inr (record { place = t.place; from = t.from; to = less; leads = t.leads }))))
         (λ (same : t.place ≡ place).
-        let here : HasChild g image (node + place) target = subst (λ (q : ℕ). HasChild g image (node + q) target) same t.leads in
+        let here : HasChildInPool g image (node + place) target = subst (λ (q : ℕ). HasChildInPool g image (node + q) target) same t.leads in
         subst (Contains (new ++ to ∷ [])) (one_target leads here) (Contains-push new to))
         (below_or_at t.place place t.to))
         h),
@@ -99,7 +99,7 @@ none_under g image row found empty = record {
 
 -- one node more
 pub one_node : {g : Layout} {image : Image} {row : List ℕ} {n node : ℕ} {found after : List ℕ} → AreTargets g image row n found
-    → n < length row → node ≡ slice_index row n → AddsTargets g image node 32 found after → AreTargets g image row (n + 1) after
+    → n < length row → node ≡ slice_index row n → AddsChildTargets g image node 32 found after → AreTargets g image row (n + 1) after
 one_node {g} {image} {row} {n} {node} {found} {after} so_far inside is adds = record {
   each = λ target. (
     λ h. ⊎_elim
@@ -175,7 +175,7 @@ next_level {g} {image} {level} {row} {beneath} levels here are = record {
           };
         }
 
-pub level_inside : {g : Layout} {image : Image} {level : ℕ} {row : List ℕ} → IsLayout g → AreOnLevel g image level row → AreInside g row
+pub level_inside : {g : Layout} {image : Image} {level : ℕ} {row : List ℕ} → IsLayout g → AreOnLevel g image level row → AreNodesInside g row
 level_inside layout here index less = node_inside layout (here.each index less)
 
 -- no node of a row was put yet

@@ -28,7 +28,7 @@ use Rattle.log_audit.proofs.Parts.{AskedBelow}
 use Rattle.log_audit.proofs.Storing.{one_row}
 use Rattle.tree_audit.specs.Around.{AreAround, IsLeadOf, lead_number}
 use Rattle.tree_audit.specs.Children.{AsksChild, HasCopyOf, IsClear, IsFirstTo, IsJournaled, IsWellLed}
-use Rattle.tree_audit.specs.Nodes.{AreNodes, HasChild}
+use Rattle.tree_audit.specs.Nodes.{AreNodes, HasChildInPool}
 use Rattle.tree_audit.specs.declared.around.Around.{Around}
 use Rattle.tree_audit.specs.declared.nodes.LevelNode.{LevelNode}
 use Rattle.tree_audit.proofs.Closing.{node_inside, one_target}
@@ -126,7 +126,7 @@ module _ {g : Layout} {image : Image} {around : Around} (are : AreAround g image
       (clear.nodes n.0 number n.1)
 
   -- no lower child cell leads to the target
-  pub no_lead_before : {cell target number high : ℕ} → HasChild g image cell target → number ≡ lead_number target 0 → high ≡ number + cell
+  pub no_lead_before : {cell target number high : ℕ} → HasChildInPool g image cell target → number ≡ lead_number target 0 → high ≡ number + cell
       → (HasBetween around.leads.items number high → ⊥) → IsFirstTo g image cell target
   no_lead_before {cell} {target} {number} {high} leads is end none w other y node low less holds =
       let at : other + 16 + y ≡ other + (16 + y) = omega arith in
@@ -200,7 +200,7 @@ has_its_copy {g} {image} {s} {owner} {cell} {target} met stored is lies j =
     record { place = j.place; inside = omega (arith, j.in_journal, d); same = ap image at ∙ j.same }
 
 -- a child cell that leads down well, by its target
-module _ {g : Layout} {image : Image} {v node x target : ℕ} (leads : HasChild g image (node + 16 + x) target) where
+module _ {g : Layout} {image : Image} {v node x target : ℕ} (leads : HasChildInPool g image (node + 16 + x) target) where
   pub leads_well : v < 63 → IsWritten image (node + x) → IsWellLed g image (node + 16 + x) target → LeadsDownWell g image v node x
   leads_well level bucket led = record {
     target = target;
@@ -264,7 +264,7 @@ moved {xs} {ys} {a} {b} {c} {d} same low high h = subst (λ (zs : List ℕ). Has
 })
 
 -- a child cell is a copy of itself
-pub copies_itself : {g : Layout} {image : Image} {cell target : ℕ} → HasChild g image cell target → cell < 2 ^ 32 → HasTarget image cell cell
+pub copies_itself : {g : Layout} {image : Image} {cell target : ℕ} → HasChildInPool g image cell target → cell < 2 ^ 32 → HasTarget image cell cell
 copies_itself {g} {image} {cell} {target} leads small =
     let h = leads.held in
     let at = address_in (Child target) cell h.cell small h.is in

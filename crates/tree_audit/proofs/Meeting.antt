@@ -5,7 +5,7 @@ use Rattle.cell_types.specs.Image.{Image}
 use Rattle.cell_types.specs.Layout.{Layout}
 use Rattle.log_audit.specs.Between.{HasBetween}
 use Rattle.log_audit.proofs.Deciding.{no, yes}
-use Rattle.tree_audit.specs.Occupied.{AreOccupied, IsAlone, IsOffNodes, number_of}
+use Rattle.tree_audit.specs.Occupied.{AreOccupied, IsAlone, IsOffNodes, occupied_number}
 use Rattle.tree_audit.specs.declared.occupied.OccupiedCells.{OccupiedCells}
 
 order : (a b : ℕ) → (a < b) ⊎ (b ≤ a)
@@ -66,18 +66,18 @@ module _ (g : Layout) (image : Image) (occupied : OccupiedCells) (are : AreOccup
         let there = are.all_blocks k other is in
         let under : k < 65536 = are.few_lists k other is in
         ⊎_elim
-        (λ (low : number_of k other < first). inr (inr (omega (arith, low, f, under, room))))
-        (λ (from : first ≤ number_of k other). ⊎_elim
-        (λ (below : number_of k other < own). absurd (lower (record { number = number_of k other; there = there; from = from; below = below })))
-        (λ (at : own ≤ number_of k other). ⊎_elim
-        (λ (same : number_of k other < next). inl (omega (arith, same, at, n, o, under, small), omega (arith, same, at, n, o, under, small)))
-        (λ (after : next ≤ number_of k other). ⊎_elim
-        (λ (within : number_of k other < behind). absurd (upper (record { number = number_of k other; there = there; from = after; below = within })))
-        (λ (far : behind ≤ number_of k other). inr (inl (omega (arith, far, e, under))))
-        (order (number_of k other) behind))
-        (order (number_of k other) next))
-        (order (number_of k other) own))
-        (order (number_of k other) first)
+        (λ (low : occupied_number k other < first). inr (inr (omega (arith, low, f, under, room))))
+        (λ (from : first ≤ occupied_number k other). ⊎_elim
+        (λ (below : occupied_number k other < own). absurd (lower (record { number = occupied_number k other; there = there; from = from; below = below })))
+        (λ (at : own ≤ occupied_number k other). ⊎_elim
+        (λ (same : occupied_number k other < next). inl (omega (arith, same, at, n, o, under, small), omega (arith, same, at, n, o, under, small)))
+        (λ (after : next ≤ occupied_number k other). ⊎_elim
+        (λ (within : occupied_number k other < behind). absurd (upper (record { number = occupied_number k other; there = there; from = after; below = within })))
+        (λ (far : behind ≤ occupied_number k other). inr (inl (omega (arith, far, e, under))))
+        (order (occupied_number k other) behind))
+        (order (occupied_number k other) next))
+        (order (occupied_number k other) own))
+        (order (occupied_number k other) first)
 
   -- a node in reach
   pub nodes_tell : {from to : ℕ} → from ≡ target - 31 → to ≡ target + 256 → (b : Bool)

@@ -10,14 +10,14 @@ use Rattle.volume_meaning.specs.Nodes.{IsBlockOf, IsNode}
 use Rattle.log_audit.proofs.OneMore.{below_or_at}
 use Rattle.list_audit.specs.Blocks.{AreListBlocks}
 use Rattle.list_audit.specs.declared.listed.ListBlock.{ListBlock}
-use Rattle.tree_audit.specs.Around.{Adds, AreAll, AreAround, BeginsBlock, BeginsNode, IsLeadAmong, IsLeadOf, lead_number}
-use Rattle.tree_audit.specs.Nodes.{AreNodes, HasChild}
+use Rattle.tree_audit.specs.Around.{AddsNumbers, AreAll, AreAround, BeginsBlock, BeginsNode, IsLeadAmong, IsLeadOf, lead_number}
+use Rattle.tree_audit.specs.Nodes.{AreNodes, HasChildInPool}
 use Rattle.tree_audit.specs.declared.around.Around.{Around}
 use Rattle.tree_audit.specs.declared.nodes.LevelNode.{LevelNode}
 use Rattle.tree_audit.proofs.Closing.{one_target}
 
 -- nothing was added yet
-pub adds_none : (P : ℕ → Type 0) (old : List ℕ) → ((x : ℕ) → P x → ⊥) → Adds P old old
+pub adds_none : (P : ℕ → Type 0) (old : List ℕ) → ((x : ℕ) → P x → ⊥) → AddsNumbers P old old
 adds_none P old none = record {
   each = λ x. (
     λ h. inl h,
@@ -26,7 +26,7 @@ adds_none P old none = record {
 }
 
 -- the same was, by another word
-pub adds_same : (P Q : ℕ → Type 0) {old new : List ℕ} → Adds P old new → ((x : ℕ) → P x → Q x) → ((x : ℕ) → Q x → P x) → Adds Q old new
+pub adds_same : (P Q : ℕ → Type 0) {old new : List ℕ} → AddsNumbers P old new → ((x : ℕ) → P x → Q x) → ((x : ℕ) → Q x → P x) → AddsNumbers Q old new
 adds_same P Q {old} {new} adds to from = record {
   each = λ x. (
     λ h. ⊎_elim (λ (before : Contains old x). inl before) (λ (p : P x). inr (to x p)) ((adds.each x).0 h),
@@ -35,8 +35,8 @@ adds_same P Q {old} {new} adds to from = record {
 }
 
 -- one number more was
-pub adds_one : (P Q : ℕ → Type 0) {old new after : List ℕ} (n : ℕ) → Adds P old new → after ≡ new ++ n ∷ [] → ((x : ℕ) → P x → Q x) → Q n
-    → ((x : ℕ) → Q x → P x ⊎ (n ≡ x)) → Adds Q old after
+pub adds_one : (P Q : ℕ → Type 0) {old new after : List ℕ} (n : ℕ) → AddsNumbers P old new → after ≡ new ++ n ∷ [] → ((x : ℕ) → P x → Q x) → Q n
+    → ((x : ℕ) → Q x → P x ⊎ (n ≡ x)) → AddsNumbers Q old after
 adds_one P Q {old} {new} {after} n adds is to here from = record {
   each = λ x. (
     λ h. ⊎_elim
@@ -54,8 +54,8 @@ adds_one P Q {old} {new} {after} n adds is to here from = record {
 }
 
 -- what several more are
-pub adds_more : (P Q R : ℕ → Type 0) {old new after : List ℕ} → Adds P old new → Adds R new after → ((x : ℕ) → P x → Q x) → ((x : ℕ) → R x → Q x)
-    → ((x : ℕ) → Q x → P x ⊎ R x) → Adds Q old after
+pub adds_more : (P Q R : ℕ → Type 0) {old new after : List ℕ} → AddsNumbers P old new → AddsNumbers R new after → ((x : ℕ) → P x → Q x) → ((x : ℕ) → R x → Q x)
+    → ((x : ℕ) → Q x → P x ⊎ R x) → AddsNumbers Q old after
 adds_more P Q R {old} {new} {after} adds more p_to r_to from = record {
   each = λ x. (
     λ h. ⊎_elim
@@ -70,7 +70,7 @@ adds_more P Q R {old} {new} {after} adds more p_to r_to from = record {
 }
 
 -- all of them, sorted
-pub are_all : (P : ℕ → Type 0) {old found once : List ℕ} → old ≡ [] → Adds P old found → IsStrictlyIncreasing once
+pub are_all : (P : ℕ → Type 0) {old found once : List ℕ} → old ≡ [] → AddsNumbers P old found → IsStrictlyIncreasing once
     → ((x : ℕ) → Contains found x → Contains once x) → ((x : ℕ) → Contains once x → Contains found x) → AreAll P once
 are_all P {old} {found} {once} empty adds rising keeps gives = record {
   rising = rising;
@@ -94,8 +94,8 @@ all_same P Q all to from = record {
 pub no_node : (nodes : List LevelNode) (x : ℕ) → BeginsNode nodes 0 x → ⊥
 no_node nodes x b = omega (arith, b.first)
 
-pub one_node : {nodes : List LevelNode} {n : ℕ} {old new after : List ℕ} (one : LevelNode) (number : ℕ) → Adds (BeginsNode nodes n) old new
-    → slice_get nodes n ≡ Some one → number ≡ one.node → after ≡ new ++ number ∷ [] → Adds (BeginsNode nodes (n + 1)) old after
+pub one_node : {nodes : List LevelNode} {n : ℕ} {old new after : List ℕ} (one : LevelNode) (number : ℕ) → AddsNumbers (BeginsNode nodes n) old new
+    → slice_get nodes n ≡ Some one → number ≡ one.node → after ≡ new ++ number ∷ [] → AddsNumbers (BeginsNode nodes (n + 1)) old after
 one_node {nodes} {n} {old} {new} {after} one number adds there same is = adds_one (BeginsNode nodes n) (BeginsNode nodes (n + 1)) number adds is
     (λ x b. record { index = b.index; first = omega (arith, b.first); one = b.one; there = b.there; is = b.is })
     (record { index = n; first = omega arith; one = one; there = there; is = sym same })
@@ -109,8 +109,8 @@ one_node {nodes} {n} {old} {new} {after} one number adds there same is = adds_on
 pub no_block : (blocks : List ListBlock) (x : ℕ) → BeginsBlock blocks 0 x → ⊥
 no_block blocks x b = omega (arith, b.first)
 
-pub one_block : {blocks : List ListBlock} {n : ℕ} {old new after : List ℕ} (one : ListBlock) (number : ℕ) → Adds (BeginsBlock blocks n) old new
-    → slice_get blocks n ≡ Some one → number ≡ one.block → after ≡ new ++ number ∷ [] → Adds (BeginsBlock blocks (n + 1)) old after
+pub one_block : {blocks : List ListBlock} {n : ℕ} {old new after : List ℕ} (one : ListBlock) (number : ℕ) → AddsNumbers (BeginsBlock blocks n) old new
+    → slice_get blocks n ≡ Some one → number ≡ one.block → after ≡ new ++ number ∷ [] → AddsNumbers (BeginsBlock blocks (n + 1)) old after
 one_block {blocks} {n} {old} {new} {after} one number adds there same is = adds_one (BeginsBlock blocks n) (BeginsBlock blocks (n + 1)) number adds is
     (λ x b. record { index = b.index; first = omega (arith, b.first); one = b.one; there = b.there; is = b.is })
     (record { index = n; first = omega arith; one = one; there = there; is = sym same })
@@ -124,24 +124,24 @@ one_block {blocks} {n} {old} {new} {after} one number adds there same is = adds_
 pub no_lead : (g : Layout) (image : Image) (node x : ℕ) → IsLeadOf g image node 16 x → ⊥
 no_lead g image node x l = omega (arith, l.from, l.to)
 
-module _ {g : Layout} {image : Image} {node place : ℕ} {old new : List ℕ} (adds : Adds (IsLeadOf g image node place) old new) where
+module _ {g : Layout} {image : Image} {node place : ℕ} {old new : List ℕ} (adds : AddsNumbers (IsLeadOf g image node place) old new) where
   later : (x : ℕ) → IsLeadOf g image node place x → IsLeadOf g image node (place + 1) x
   later x l = record { place = l.place; from = l.from; to = omega (arith, l.to); target = l.target; leads = l.leads; is = l.is }
 
-  pub leads_nowhere : ((target : ℕ) → HasChild g image (node + place) target → ⊥) → Adds (IsLeadOf g image node (place + 1)) old new
+  pub leads_nowhere : ((target : ℕ) → HasChildInPool g image (node + place) target → ⊥) → AddsNumbers (IsLeadOf g image node (place + 1)) old new
   leads_nowhere none = adds_same (IsLeadOf g image node place) (IsLeadOf g image node (place + 1)) adds later (λ x l. ⊎_elim
       (λ (less : l.place < place). record { place = l.place; from = l.from; to = less; target = l.target; leads = l.leads; is = l.is })
-      (λ (same : l.place ≡ place). absurd (none l.target (subst (λ (p : ℕ). HasChild g image (node + p) l.target) same l.leads)))
+      (λ (same : l.place ≡ place). absurd (none l.target (subst (λ (p : ℕ). HasChildInPool g image (node + p) l.target) same l.leads)))
       (below_or_at l.place place l.to))
 
-  pub leads_on : {after : List ℕ} {target number : ℕ} → 16 ≤ place → HasChild g image (node + place) target
-      → number ≡ lead_number target (node + place) → after ≡ new ++ number ∷ [] → Adds (IsLeadOf g image node (place + 1)) old after
+  pub leads_on : {after : List ℕ} {target number : ℕ} → 16 ≤ place → HasChildInPool g image (node + place) target
+      → number ≡ lead_number target (node + place) → after ≡ new ++ number ∷ [] → AddsNumbers (IsLeadOf g image node (place + 1)) old after
   leads_on {after} {target} {number} low leads same is = adds_one (IsLeadOf g image node place) (IsLeadOf g image node (place + 1)) number adds is later
       (record { place = place; from = low; to = omega arith; target = target; leads = leads; is = same })
       (λ x l. ⊎_elim
       (λ (less : l.place < place). inl (record { place = l.place; from = l.from; to = less; target = l.target; leads = l.leads; is = l.is }))
       (λ (last : l.place ≡ place).
-      let there = subst (λ (p : ℕ). HasChild g image (node + p) l.target) last l.leads in
+      let there = subst (λ (p : ℕ). HasChildInPool g image (node + p) l.target) last l.leads in
       let one : target ≡ l.target = one_target leads there in
       inr (same ∙ ap (λ (t : ℕ). lead_number t (node + place)) one ∙ ap (λ (p : ℕ). lead_number l.target (node + p)) (sym last) ∙ sym l.is))
       (below_or_at l.place place l.to))
@@ -151,8 +151,8 @@ pub no_leads : (g : Layout) (image : Image) (nodes : List LevelNode) (x : ℕ) �
 no_leads g image nodes x l = omega (arith, l.first)
 
 pub more_leads : {g : Layout} {image : Image} {nodes : List LevelNode} {n : ℕ} {old new after : List ℕ} (one : LevelNode)
-    → Adds (IsLeadAmong g image nodes n) old new → slice_get nodes n ≡ Some one → Adds (IsLeadOf g image one.node 32) new after
-    → Adds (IsLeadAmong g image nodes (n + 1)) old after
+    → AddsNumbers (IsLeadAmong g image nodes n) old new → slice_get nodes n ≡ Some one → AddsNumbers (IsLeadOf g image one.node 32) new after
+    → AddsNumbers (IsLeadAmong g image nodes (n + 1)) old after
 more_leads {g} {image} {nodes} {n} {old} {new} {after} one adds there more =
     adds_more (IsLeadAmong g image nodes n) (IsLeadAmong g image nodes (n + 1)) (IsLeadOf g image one.node 32) adds more
     (λ x l. record { index = l.index; first = omega (arith, l.first); one = l.one; there = l.there; lead = l.lead })

@@ -11,7 +11,7 @@ use Rattle.list_audit.specs.declared.listed.ListBlock.{ListBlock}
 use Rattle.tree_audit.specs.Nodes.{AreNodes}
 use Rattle.tree_audit.specs.declared.nodes.LevelNode.{LevelNode}
 use Rattle.tree_audit.specs.Listing.{AreBlockNumbers, AreNodeCells, AreSortedOnce}
-use Rattle.tree_audit.specs.Occupied.{AreOccupied, number_of}
+use Rattle.tree_audit.specs.Occupied.{AreOccupied, occupied_number}
 use Rattle.tree_audit.specs.declared.occupied.OccupiedCells.{OccupiedCells}
 
 -- the number at a place
@@ -47,7 +47,7 @@ module _ (g : Layout) (image : Image) {blocks : List ListBlock} {nodes : List Le
         let was = by_number.only number has in
         let b = thing_at blocks was.0 (omega (arith, was.1, numbered.count)) in
         let n = numbered.each was.0 b.0 b.1 in
-        let both : Some number ≡ Some (number_of b.0.list b.0.block) = sym (stands_at numbers number was) ∙ n.0 in
+        let both : Some number ≡ Some (occupied_number b.0.list b.0.block) = sym (stands_at numbers number was) ∙ n.0 in
         record {
           list = b.0.list;
           block = b.0.block;
@@ -58,9 +58,9 @@ module _ (g : Layout) (image : Image) {blocks : List ListBlock} {nodes : List Le
     all_blocks = λ l block is.
         let a = are_blocks.all l block is in
         let n = numbered.each a.place a.one a.there in
-        subst (λ (m : ℕ). Contains occupied.blocks.items (number_of m block)) a.list
-        (subst (λ (m : ℕ). Contains occupied.blocks.items (number_of a.one.list m)) a.is
-        (by_number.all (number_of a.one.list a.one.block) (contained numbers a.place (number_of a.one.list a.one.block) n.0)));
+        subst (λ (m : ℕ). Contains occupied.blocks.items (occupied_number m block)) a.list
+        (subst (λ (m : ℕ). Contains occupied.blocks.items (occupied_number a.one.list m)) a.is
+        (by_number.all (occupied_number a.one.list a.one.block) (contained numbers a.place (occupied_number a.one.list a.one.block) n.0)));
     few_lists = λ l block is.
         let a = are_blocks.all l block is in
         omega (arith, (numbered.each a.place a.one a.there).1, a.list);

@@ -7,7 +7,7 @@ use Rattle.volume_meaning.specs.HashPaths.{nibble}
 use Rattle.volume_meaning.specs.Nodes.{IsOnPath, root, under}
 use Rattle.volume_meaning.specs.Volumes.{Holds}
 use Rattle.log_audit.proofs.OneMore.{below_or_at}
-use Rattle.tree_audit.specs.Nodes.{HasChild}
+use Rattle.tree_audit.specs.Nodes.{HasChildInPool}
 use Rattle.tree_audit.specs.Paths.{GoesBy}
 use Rattle.tree_audit.proofs.Closing.{one_target}
 
@@ -21,14 +21,14 @@ one_on_level {g} {image} {digest} {v} {a} {b} (under _ _ w above next rest low c
     let same : above' ≡ above = sym (one_on_level rest (subst (λ (u : ℕ). IsOnPath g image digest u above') level rest')) in
     let cell : above' + 16 + nibble digest w' ≡ above + 16 + nibble digest w =
     ap (λ (u : ℕ). above' + 16 + nibble digest u) level ∙ ap (λ (m : ℕ). m + 16 + nibble digest w) same in
-    let one : HasChild g image (above + 16 + nibble digest w) a = record { held = child; from = from; to = to } in
-    let other : HasChild g image (above + 16 + nibble digest w) b =
+    let one : HasChildInPool g image (above + 16 + nibble digest w) a = record { held = child; from = from; to = to } in
+    let other : HasChildInPool g image (above + 16 + nibble digest w) b =
     record { held = subst (λ (c : ℕ). Holds image c (Child b)) cell child'; from = from'; to = to' } in
     one_target one other
 
 -- and goes on from a node of it where it has one further down
 pub goes_on : {g : Layout} {image : Image} {digest : List ℕ} {v at w node : ℕ} → IsOnPath g image digest v at → IsOnPath g image digest w node → v < w
-    → (target : ℕ) × HasChild g image (at + 16 + nibble digest v) target
+    → (target : ℕ) × HasChildInPool g image (at + 16 + nibble digest v) target
 goes_on here (root w node first is) less = absurd (omega (arith, first, less))
 goes_on {g} {image} {digest} {v} {at} here (under w node u above next rest low child from to) less = ⊎_elim
     (λ (further : v < u). goes_on here rest further)
@@ -70,7 +70,7 @@ not_here {g} {image} {digest} {node} {x} {level} {at} f low differ v less on_pat
 
 -- one node further
 pub one_step : {g : Layout} {image : Image} {digest : List ℕ} {node x level at target : ℕ} → IsFollowed g image digest node x level at → level < 64
-    → (at ≡ node → x ≡ nibble digest level → ⊥) → HasChild g image (at + 16 + nibble digest level) target
+    → (at ≡ node → x ≡ nibble digest level → ⊥) → HasChildInPool g image (at + 16 + nibble digest level) target
     → IsFollowed g image digest node x (level + 1) target
 one_step {g} {image} {digest} {node} {x} {level} {at} {target} f low differ leads = record {
   on_path = λ less. under (level + 1) target level at refl (f.on_path low) (omega (arith, less)) leads.held leads.from leads.to;
@@ -80,7 +80,7 @@ one_step {g} {image} {digest} {node} {x} {level} {at} {target} f low differ lead
 
 -- the path ends here
 pub ends_here : {g : Layout} {image : Image} {digest : List ℕ} {node x level at : ℕ} → IsFollowed g image digest node x level at → level < 64
-    → (at ≡ node → x ≡ nibble digest level → ⊥) → ((target : ℕ) → HasChild g image (at + 16 + nibble digest level) target → ⊥)
+    → (at ≡ node → x ≡ nibble digest level → ⊥) → ((target : ℕ) → HasChildInPool g image (at + 16 + nibble digest level) target → ⊥)
     → GoesBy g image digest node x → ⊥
 ends_here {g} {image} {digest} {node} {x} {level} {at} f low differ none by = ⊎_elim
     (λ (above : by.level < level + 1). not_here f low differ by.level above by.on_path by.here)

@@ -6,7 +6,7 @@ use Rattle.log_audit.proofs.OneMore.{get_before, get_last, length_pushed}
 use Rattle.list_audit.specs.declared.listed.ListBlock.{ListBlock}
 use Rattle.tree_audit.specs.declared.nodes.LevelNode.{LevelNode}
 use Rattle.tree_audit.specs.Listing.{AreBlockNumbers, AreNodeCells}
-use Rattle.tree_audit.specs.Occupied.{number_of}
+use Rattle.tree_audit.specs.Occupied.{occupied_number}
 
 below_or_at : (k n : ℕ) → k < n + 1 → (k < n) ⊎ (k ≡ n)
 below_or_at k n h = grind arith
@@ -37,7 +37,7 @@ module _ {A : Type 0} {number : A → ℕ} {Small : A → Type 0} {things : List
   }
 
 abbrev pub NumberedTo : List ListBlock → List ℕ → ℕ → Type 0
-NumberedTo = ListsTo (λ (b : ListBlock). number_of b.list b.block) (λ (b : ListBlock). b.list < 65536)
+NumberedTo = ListsTo (λ (b : ListBlock). occupied_number b.list b.block) (λ (b : ListBlock). b.list < 65536)
 
 abbrev pub CellsTo : List LevelNode → List ℕ → ℕ → Type 0
 CellsTo = ListsTo (λ (n : LevelNode). n.node) (λ (n : LevelNode). Unit {0})

@@ -19,7 +19,7 @@ use Rattle.append_file.specs.declared.piece.ContentFault.TheVariants as faults
 use Rattle.document_store.specs.Heads.{HeadEnds, id_of}
 use Rattle.document_store.specs.declared.head.Head.{Head}
 use Rattle.document_store.proofs.Parsing.{first_is, stored_fits}
-use Rattle.log_audit.specs.Kept.{image_of, view_of}
+use Rattle.log_audit.specs.Kept.{image_of_kept, view_of}
 use Rattle.log_audit.specs.declared.kept.KeptCells.{KeptCells}
 use Rattle.log_audit.specs.Findings.{IsMetAll}
 use Rattle.log_audit.specs.Logs.{IsLog}
@@ -34,7 +34,7 @@ told : IsTrue true
 told = search rules
 
 -- a view of kept cells shows the same after each read
-same_kept : (a b : KeptCells) → Viewed (view_of a) (view_of b) → image_of b ≡ image_of a
+same_kept : (a b : KeptCells) → Viewed (view_of a) (view_of b) → image_of_kept b ≡ image_of_kept a
 same_kept a b viewed = same_image ((rests_of viewed).shown (record { same = refl; below = omega arith }))
 
 -- where rule 4 is kept, the cells of a stored slot spell a document
@@ -56,15 +56,15 @@ identifier_is v start bytes p tells own read id body count is_id is_body spells 
     ∙ ap (λ (n : ℕ). take n (id ++ body)) first
     ∙ take-append_seam id body
 
-module _ (g : Layout) (log : Log) (s : StoredSlot) (start : ℕ) (a b : KeptCells) (stored : IsStored g (image_of a) s)
+module _ (g : Layout) (log : Log) (s : StoredSlot) (start : ℕ) (a b : KeptCells) (stored : IsStored g (image_of_kept a) s)
     (at : start ≡ document_at s.start s.length s.bytes s.journal) (viewed : Viewed (view_of a) (view_of b)) where
   -- what stands before the body of the document of a stored slot was read
-  pub head_was_read : IsVolume g.cells (image_of a) g → IsLog g (image_of a) log → IsMetAll g (image_of a) Documents → (p : Position) (h : Head)
-      → HeadEnds start s.bytes (view_of a) (view_of b) p (Ok h) → HasHead g (image_of a) s.slot h
+  pub head_was_read : IsVolume g.cells (image_of_kept a) g → IsLog g (image_of_kept a) log → IsMetAll g (image_of_kept a) Documents → (p : Position) (h : Head)
+      → HeadEnds start s.bytes (view_of a) (view_of b) p (Ok h) → HasHead g (image_of_kept a) s.slot h
   head_was_read volume is met p h ends =
-      let image = image_of a in
+      let image = image_of_kept a in
       let d = document_in at stored met in
-      let shown : HasDocument (image_of b) start s.bytes = subst (λ (i : Image). HasDocument i start s.bytes) (sym (same_kept a b viewed)) d in
+      let shown : HasDocument (image_of_kept b) start s.bytes = subst (λ (i : Image). HasDocument i start s.bytes) (sym (same_kept a b viewed)) d in
       let same : id_of h ≡ d.id = identifier_is (view_of b) start s.bytes p told (id_of h) ends.1.read d.id d.body d.count d.is_identifier d.is_body
       (subst (λ (i : Image). Spells i start (stored_bytes d.id d.body)) (sym (same_kept a b viewed)) d.spells) in
       record {
@@ -87,7 +87,7 @@ module _ (g : Layout) (log : Log) (s : StoredSlot) (start : ℕ) (a b : KeptCell
       }
 
   -- and it always is
-  pub head_is_read : IsMetAll g (image_of a) Documents → (p : Position) (fault : ContentFault)
+  pub head_is_read : IsMetAll g (image_of_kept a) Documents → (p : Position) (fault : ContentFault)
       → HeadEnds start s.bytes (view_of a) (view_of b) p (Err fault) → ⊥
   head_is_read met p faults.ReadFault ends = omega (arith, ends)
   head_is_read met p faults.Broken ends =

@@ -15,8 +15,8 @@ use Rattle.tamper_rules.specs.Rules.{PathRule}
 use Rattle.document_store.proofs.Holding.{stands_held}
 use Rattle.log_audit.proofs.OneMore.{below_or_at}
 use Rattle.log_audit.proofs.Families.{AreFine}
-use Rattle.tree_audit.specs.Nodes.{HasChild}
-use Rattle.tree_audit.specs.Paths.{HasTrail, IsOther, IsOwn}
+use Rattle.tree_audit.specs.Nodes.{HasChildInPool}
+use Rattle.tree_audit.specs.Paths.{HasRootTrail, IsOther, IsBucketOfSlot}
 use Rattle.tree_audit.specs.declared.looks.HeldBucket.{HeldBucket}
 use Rattle.tree_audit.proofs.Closing.{one_target}
 
@@ -25,13 +25,13 @@ buckets a b f h e = (cc, cc)
 
 -- Slot n has a hash trail from the root just where it has one from this node, and none where the levels are used up.
 pub record IsReached (g : Layout) (image : Image) (id : List ℕ) (n level node : ℕ) : Type 0 where
-  pub on : level < 64 → (HashTrail image (sought_in g.cells g id) n node level ↔ HasTrail g image id n)
-  pub over : 64 ≤ level → HasTrail g image id n → ⊥
+  pub on : level < 64 → (HashTrail image (sought_in g.cells g id) n node level ↔ HasRootTrail g image id n)
+  pub over : 64 ≤ level → HasRootTrail g image id n → ⊥
   pub inside : node + 32 ≤ g.cells
 
 pub at_root : (g : Layout) (image : Image) (id : List ℕ) (n at : ℕ) → at ≡ root_at g → at + 32 ≤ g.cells → IsReached g image id n 0 at
 at_root g image id n at is inside = record {
-  on = λ _. subst (λ (m : ℕ). HashTrail image (sought_in g.cells g id) n m 0 ↔ HasTrail g image id n) (sym is) (λ h. h, λ h. h);
+  on = λ _. subst (λ (m : ℕ). HashTrail image (sought_in g.cells g id) n m 0 ↔ HasRootTrail g image id n) (sym is) (λ h. h, λ h. h);
   over = λ past. absurd (omega (arith, past));
   inside = inside;
 }
@@ -39,7 +39,7 @@ at_root g image id n at is inside = record {
 module _ {g : Layout} {image : Image} {id : List ℕ} {n level node : ℕ} (reached : IsReached g image id n level node) (low : level < 64) where
   -- no bucket stands there
   pub no_bucket : ((slot : ℕ) (fingerprint : List ℕ) → Holds image (node + nibble (sha256 id) level) (records.Bucket slot fingerprint) → ⊥)
-      → HasTrail g image id n → ⊥
+      → HasRootTrail g image id n → ⊥
   no_bucket none trail = from ((reached.on low).1 trail)
     where
       from : HashTrail image (sought_in g.cells g id) n node level → ⊥
@@ -48,14 +48,14 @@ module _ {g : Layout} {image : Image} {id : List ℕ} {n level node : ℕ} (reac
 
   module _ (b : HeldBucket) (held : Holds image (node + nibble (sha256 id) level) (records.Bucket b.slot b.fingerprint)) where
     -- the bucket is the slot's own
-    pub own_bucket : IsOwn b n (sha256 id) → HasTrail g image id n
+    pub own_bucket : IsBucketOfSlot b n (sha256 id) → HasRootTrail g image id n
     own_bucket own = (reached.on low).0 (here node level
         (subst (λ (f : List ℕ). Holds image (node + nibble (sha256 id) level) (records.Bucket n f)) own.1
         (subst (λ (m : ℕ). Holds image (node + nibble (sha256 id) level) (records.Bucket m b.fingerprint)) own.0 held)))
 
-    module _ (other : IsOwn b n (sha256 id) → ⊥) where
+    module _ (other : IsBucketOfSlot b n (sha256 id) → ⊥) where
       -- and where it is not, a hash trail passes it and goes on below
-      goes_below : HasTrail g image id n → IsOther g image id b
+      goes_below : HasRootTrail g image id n → IsOther g image id b
           × ((target : ℕ) × LeadsDown image (sought_in g.cells g id) node level target
           × HashTrail image (sought_in g.cells g id) n target (level + 1))
       goes_below trail = from ((reached.on low).1 trail)
@@ -74,16 +74,16 @@ module _ {g : Layout} {image : Image} {id : List ℕ} {n level node : ℕ} (reac
                 (target, leads, rest),
               )
 
-      pub not_passed : (IsOther g image id b → ⊥) → HasTrail g image id n → ⊥
+      pub not_passed : (IsOther g image id b → ⊥) → HasRootTrail g image id n → ⊥
       not_passed never trail = never (goes_below trail).0
 
       -- no child cell leads on
-      pub no_child : ((target : ℕ) → HasChild g image (node + 16 + nibble (sha256 id) level) target → ⊥) → HasTrail g image id n → ⊥
+      pub no_child : ((target : ℕ) → HasChildInPool g image (node + 16 + nibble (sha256 id) level) target → ⊥) → HasRootTrail g image id n → ⊥
       no_child none trail = let h = (goes_below trail).1 in
           none h.0 (record { held = h.1.child; from = h.1.inside_from; to = h.1.inside_to })
 
       -- one level further down
-      pub onward : IsOther g image id b → (target : ℕ) → HasChild g image (node + 16 + nibble (sha256 id) level) target
+      pub onward : IsOther g image id b → (target : ℕ) → HasChildInPool g image (node + 16 + nibble (sha256 id) level) target
           → IsReached g image id n (level + 1) target
       onward passes target leads = record {
         on = λ less. (
@@ -91,7 +91,7 @@ module _ {g : Layout} {image : Image} {id : List ℕ} {n level node : ℕ} (reac
               (record { slot = b.slot; fingerprint = b.fingerprint; bucket = held; other = passes })
               (record { levels = omega (arith, less); child = leads.held; inside_from = leads.from; inside_to = leads.to }) rest),
           λ trail. let h = (goes_below trail).1 in
-              let taken : HasChild g image (node + 16 + nibble (sha256 id) level) h.0 =
+              let taken : HasChildInPool g image (node + 16 + nibble (sha256 id) level) h.0 =
               record { held = h.1.child; from = h.1.inside_from; to = h.1.inside_to } in
               subst (λ (t : ℕ). HashTrail image (sought_in g.cells g id) n t (level + 1)) (one_target taken leads) h.2,
         );
@@ -117,18 +117,18 @@ same_not_passed g image {id} b same own body stands is other = ⊎_elim
 
 -- the documents of the slots below n have hash trails
 pub record HaveTrails (g : Layout) (image : Image) (n : ℕ) : Type 0 where
-  pub each : (m : ℕ) (id body : List ℕ) → m < n → Stands g.cells image m id body → HasTrail g image id m
+  pub each : (m : ℕ) (id body : List ℕ) → m < n → Stands g.cells image m id body → HasRootTrail g image id m
 
 pub no_trails : (g : Layout) (image : Image) → HaveTrails g image 0
 no_trails g image = record { each = λ m id body less. absurd (omega (arith, less)) }
 
 -- one slot more
 pub one_trail : {g : Layout} {image : Image} {n : ℕ} → HaveTrails g image n
-    → ((id body : List ℕ) → Stands g.cells image n id body → HasTrail g image id n) → HaveTrails g image (n + 1)
+    → ((id body : List ℕ) → Stands g.cells image n id body → HasRootTrail g image id n) → HaveTrails g image (n + 1)
 one_trail {g} {image} {n} have has = record {
   each = λ m id body less stands. ⊎_elim
       (λ (earlier : m < n). have.each m id body earlier stands)
-      (λ (same : m ≡ n). subst (HasTrail g image id) (sym same)
+      (λ (same : m ≡ n). subst (HasRootTrail g image id) (sym same)
       (has id body (subst (λ (k : ℕ). Stands g.cells image k id body) same stands)))
       (below_or_at m n less);
 }

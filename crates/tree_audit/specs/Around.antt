@@ -5,13 +5,13 @@ use Rattle.cell_types.specs.Image.{Image}
 use Rattle.cell_types.specs.Layout.{Layout}
 use Rattle.volume_meaning.specs.Nodes.{IsBlockOf, IsNode}
 use Rattle.list_audit.specs.declared.listed.ListBlock.{ListBlock}
-use Rattle.tree_audit.specs.Nodes.{HasChild}
+use Rattle.tree_audit.specs.Nodes.{HasChildInPool}
 use Rattle.tree_audit.specs.declared.around.Around.{Around}
 use Rattle.tree_audit.specs.declared.around.TheConstants.{TARGET_STEP}
 use Rattle.tree_audit.specs.declared.nodes.LevelNode.{LevelNode}
 
 -- new has what old has, and the numbers of which this holds
-pub record Adds (P : ℕ → Type 0) (old new : List ℕ) : Type 0 where
+pub record AddsNumbers (P : ℕ → Type 0) (old new : List ℕ) : Type 0 where
   pub each : (x : ℕ) → Contains new x ↔ (Contains old x ⊎ P x)
 
 -- these are the numbers of which this holds, each once, and they rise
@@ -45,7 +45,7 @@ pub record IsLeadOf (g : Layout) (image : Image) (node below x : ℕ) : Type 0 w
   pub from : 16 ≤ place
   pub to : place < below
   pub target : ℕ
-  pub leads : HasChild g image (node + place) target
+  pub leads : HasChildInPool g image (node + place) target
   pub is : x ≡ lead_number target (node + place)
 
 -- it is that of a child cell of one of the first n of these nodes

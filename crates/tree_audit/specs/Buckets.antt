@@ -8,9 +8,9 @@ use Rattle.tamper_rules.specs.Rules.{IsTrueBucket}
 use Rattle.tree_audit.specs.declared.looks.HeldBucket.{HeldBucket}
 
 -- what a look at a bucket answers
-abbrev pub BucketEnds : Image → ℕ → Option HeldBucket → Type 0
-BucketEnds image at None = (slot : ℕ) (fingerprint : List ℕ) → Holds image at (records.Bucket slot fingerprint) → ⊥
-BucketEnds image at (Some b) = Holds image at (records.Bucket b.slot b.fingerprint)
+abbrev pub BucketAnswers : Image → ℕ → Option HeldBucket → Type 0
+BucketAnswers image at None = (slot : ℕ) (fingerprint : List ℕ) → Holds image at (records.Bucket slot fingerprint) → ⊥
+BucketAnswers image at (Some b) = Holds image at (records.Bucket b.slot b.fingerprint)
 
 -- what rule 11 asks of a cell on account of this node
 abbrev pub AsksBucket : Layout → Image → ℕ → ℕ → Type 0

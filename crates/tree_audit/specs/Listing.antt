@@ -3,14 +3,14 @@ use Rattle.std.specs.Prelude.{◌≡◌, ◌<◌, ℕ, List, length, slice_get, 
 use Rattle.std.specs.List.Sorted.{IsStrictlyIncreasing}
 use Rattle.list_audit.specs.declared.listed.ListBlock.{ListBlock}
 use Rattle.tree_audit.specs.declared.nodes.LevelNode.{LevelNode}
-use Rattle.tree_audit.specs.Occupied.{number_of}
+use Rattle.tree_audit.specs.Occupied.{occupied_number}
 use Rattle.tree_audit.specs.declared.occupied.TheConstants.{BLOCK_STEP}
 
 -- each block's number, in its place
 pub record AreBlockNumbers (blocks : List ListBlock) (numbers : List ℕ) : Type 0 where
   pub count : length numbers ≡ length blocks
   pub each : (i : ℕ) (b : ListBlock) → slice_get blocks i ≡ Some b
-      → (slice_get numbers i ≡ Some (number_of b.list b.block)) × (b.list < BLOCK_STEP)
+      → (slice_get numbers i ≡ Some (occupied_number b.list b.block)) × (b.list < BLOCK_STEP)
 
 -- each node's first cell, in its place
 pub record AreNodeCells (nodes : List LevelNode) (cells : List ℕ) : Type 0 where

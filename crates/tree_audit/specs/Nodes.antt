@@ -9,18 +9,18 @@ use Rattle.log_audit.specs.Leads.{LeadsInto}
 use Rattle.tree_audit.specs.declared.nodes.LevelNode.{LevelNode}
 
 -- the child cell there leads to a node whose cells lie in the pool
-abbrev pub HasChild : Layout → Image → ℕ → ℕ → Type 0
-HasChild g image at target = LeadsInto g image (λ (t : ℕ). Child t) 32 at target
+abbrev pub HasChildInPool : Layout → Image → ℕ → ℕ → Type 0
+HasChildInPool g image at target = LeadsInto g image (λ (t : ℕ). Child t) 32 at target
 
 -- a child cell of the node leads there, one of those before this place
 pub record IsTarget (g : Layout) (image : Image) (node below target : ℕ) : Type 0 where
   pub place : ℕ
   pub from : 16 ≤ place
   pub to : place < below
-  pub leads : HasChild g image (node + place) target
+  pub leads : HasChildInPool g image (node + place) target
 
 -- to a row of numbers the targets of the node's child cells before this place were added
-pub record AddsTargets (g : Layout) (image : Image) (node below : ℕ) (old new : List ℕ) : Type 0 where
+pub record AddsChildTargets (g : Layout) (image : Image) (node below : ℕ) (old new : List ℕ) : Type 0 where
   pub each : (target : ℕ) → Contains new target ↔ (Contains old target ⊎ IsTarget g image node below target)
 
 -- a child cell of one of the first n of these nodes leads there
@@ -36,8 +36,8 @@ pub record AreUnder (g : Layout) (image : Image) (row under : List ℕ) : Type 0
   pub each : (target : ℕ) → Contains under target ↔ IsUnder g image row (length row) target
 
 -- these nodes lie on the device
-abbrev pub AreInside : Layout → List ℕ → Type 0
-AreInside g row = (index : ℕ) → index < length row → slice_index row index + 32 ≤ g.cells
+abbrev pub AreNodesInside : Layout → List ℕ → Type 0
+AreNodesInside g row = (index : ℕ) → index < length row → slice_index row index + 32 ≤ g.cells
 
 -- these are the nodes of a level, each once, by rising numbers
 pub record AreOnLevel (g : Layout) (image : Image) (level : ℕ) (row : List ℕ) : Type 0 where
@@ -57,13 +57,13 @@ abbrev pub IsBefore : LevelNode → LevelNode → Type 0
 IsBefore a b = (a.level < b.level) ⊎ ((a.level ≡ b.level) × (a.node < b.node))
 
 -- the node of this level is one of these
-pub record IsAmong (nodes : List LevelNode) (level node : ℕ) : Type 0 where
+pub record IsAmongNodes (nodes : List LevelNode) (level node : ℕ) : Type 0 where
   pub index : ℕ
   pub there : slice_get nodes index ≡ Some (record { level = level; node = node })
 
 -- these are the nodes of the tree, each once at each of its levels
 pub record AreNodes (g : Layout) (image : Image) (nodes : List LevelNode) : Type 0 where
   pub each : (i : ℕ) (n : LevelNode) → slice_get nodes i ≡ Some n → IsNode g image n.level n.node
-  pub all : (level node : ℕ) → IsNode g image level node → IsAmong nodes level node
+  pub all : (level node : ℕ) → IsNode g image level node → IsAmongNodes nodes level node
   pub rising : (i j : ℕ) (a b : LevelNode) → i < j → slice_get nodes i ≡ Some a → slice_get nodes j ≡ Some b
       → IsBefore a b

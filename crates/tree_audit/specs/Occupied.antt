@@ -8,8 +8,8 @@ use Rattle.tree_audit.specs.declared.occupied.OccupiedCells.{OccupiedCells}
 use Rattle.tree_audit.specs.declared.occupied.TheConstants.{BLOCK_STEP}
 
 -- the number of a block of list l
-abbrev pub number_of : ℕ → ℕ → ℕ
-number_of l block = block * BLOCK_STEP + l
+abbrev pub occupied_number : ℕ → ℕ → ℕ
+occupied_number l block = block * BLOCK_STEP + l
 
 -- a block of some list has this number
 pub record IsBlockNumber (g : Layout) (image : Image) (number : ℕ) : Type 0 where
@@ -17,7 +17,7 @@ pub record IsBlockNumber (g : Layout) (image : Image) (number : ℕ) : Type 0 wh
   pub block : ℕ
   pub is : IsBlockOf g image list block
   pub small : list < BLOCK_STEP
-  pub number_is : number ≡ number_of list block
+  pub number_is : number ≡ occupied_number list block
 
 -- a node begins at this cell
 pub record IsNodeCell (g : Layout) (image : Image) (cell : ℕ) : Type 0 where
@@ -29,7 +29,7 @@ pub record AreOccupied (g : Layout) (image : Image) (occupied : OccupiedCells) :
   pub blocks_ordered : IsStrictlyIncreasing occupied.blocks.items
   pub nodes_ordered : IsStrictlyIncreasing occupied.nodes.items
   pub block_is : (number : ℕ) → Contains occupied.blocks.items number → IsBlockNumber g image number
-  pub all_blocks : (l block : ℕ) → IsBlockOf g image l block → Contains occupied.blocks.items (number_of l block)
+  pub all_blocks : (l block : ℕ) → IsBlockOf g image l block → Contains occupied.blocks.items (occupied_number l block)
   pub few_lists : (l block : ℕ) → IsBlockOf g image l block → l < BLOCK_STEP
   pub node_is : (cell : ℕ) → Contains occupied.nodes.items cell → IsNodeCell g image cell
   pub all_nodes : (level cell : ℕ) → IsNode g image level cell → Contains occupied.nodes.items cell

@@ -16,8 +16,8 @@ pub record GoesBy (g : Layout) (image : Image) (digest : List ℕ) (node x : ℕ
   pub here : x ≡ nibble digest level
 
 -- the bucket is slot n's own, by a digest
-abbrev pub IsOwn : HeldBucket → ℕ → List ℕ → Type 0
-IsOwn b n digest = (b.slot ≡ n) × (b.fingerprint ≡ fingerprint_of digest)
+abbrev pub IsBucketOfSlot : HeldBucket → ℕ → List ℕ → Type 0
+IsBucketOfSlot b n digest = (b.slot ≡ n) × (b.fingerprint ≡ fingerprint_of digest)
 
 -- a hash trail passes the bucket: it has another fingerprint, or its slot stands with another identifier
 abbrev pub IsOther : Layout → Image → List ℕ → HeldBucket → Type 0
@@ -26,5 +26,5 @@ IsOther g image id b =
     ⊎ ((own : List ℕ) × (body : List ℕ) × Stands g.cells image b.slot own body × (own ≢ id))
 
 -- slot n has a hash trail from the root as that of this identifier
-abbrev pub HasTrail : Layout → Image → List ℕ → ℕ → Type 0
-HasTrail g image id n = HashTrail image (sought_in g.cells g id) n (root_at g) 0
+abbrev pub HasRootTrail : Layout → Image → List ℕ → ℕ → Type 0
+HasRootTrail g image id n = HashTrail image (sought_in g.cells g id) n (root_at g) 0

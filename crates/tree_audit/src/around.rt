@@ -1,8 +1,8 @@
 //! What stands around a node: other nodes, blocks, and the child cells that lead to it.
 ghost use Rattle.std.specs.Prelude.{◌≡◌, ◌<◌, ◌+◌, ◌^◌, ℕ, [], length, IfOk, OnOk};
-ghost use Rattle.log_audit.specs.Kept.{image_of};
+ghost use Rattle.log_audit.specs.Kept.{image_of_kept};
 ghost use Rattle.list_audit.specs.Blocks.{AreListBlocks};
-ghost use Rattle.tree_audit.specs.Around.{Adds, AreAll, AreAround, BeginsBlock, BeginsNode, IsLeadAmong, IsLeadOf};
+ghost use Rattle.tree_audit.specs.Around.{AddsNumbers, AreAll, AreAround, BeginsBlock, BeginsNode, IsLeadAmong, IsLeadOf};
 ghost use Rattle.tree_audit.specs.Nodes.{AreNodes};
 
 use crate::looks::child_at;
@@ -35,9 +35,9 @@ pub(crate) fn around_of(
     nodes: &[LevelNode],
     blocks: &[ListBlock],
 ) -> Result<Around, NoMemory>
-    requires nodes { AreNodes geometry.now (image_of kept.now) nodes.now }
-    requires blocks { AreListBlocks geometry.now (image_of kept.now) blocks.now }
-    ensures { IfOk result (λ around. AreAround geometry.now (image_of kept.now) around) }
+    requires nodes { AreNodes geometry.now (image_of_kept kept.now) nodes.now }
+    requires blocks { AreListBlocks geometry.now (image_of_kept kept.now) blocks.now }
+    ensures { IfOk result (λ around. AreAround geometry.now (image_of_kept kept.now) around) }
 {
     Ok(Around {
         nodes: node_starts(alloc, nodes)?,
@@ -81,9 +81,9 @@ fn leads_of(
     geometry: &Geometry,
     nodes: &[LevelNode],
 ) -> Result<Vec<u64>, NoMemory>
-    requires { AreNodes geometry.now (image_of kept.now) nodes.now }
+    requires { AreNodes geometry.now (image_of_kept kept.now) nodes.now }
     ensures { IfOk result (λ leads. AreAll
-        (IsLeadAmong geometry.now (image_of kept.now) nodes.now (length nodes.now)) leads.items) }
+        (IsLeadAmong geometry.now (image_of_kept kept.now) nodes.now (length nodes.now)) leads.items) }
 {
     let _cells = geometry.cells();
     let mut leads = Vec::new(alloc);
@@ -102,7 +102,7 @@ fn push_leads(
     leads: &mut Vec<u64>,
 ) -> Result<(), NoMemory>
     requires { node + 32 < 2 ^ 32 }
-    ensures { OnOk result (Adds (IsLeadOf geometry.now (image_of kept.now) node 32) leads.old.items leads.new.items) }
+    ensures { OnOk result (AddsNumbers (IsLeadOf geometry.now (image_of_kept kept.now) node 32) leads.old.items leads.new.items) }
 {
     for place in NODE_BUCKETS..NODE_CELLS {
         let cell = node + place;

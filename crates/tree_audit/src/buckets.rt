@@ -4,8 +4,8 @@ ghost use Rattle.volume_meaning.specs.HashPaths.{fingerprint_of};
 ghost use Rattle.volume_meaning.specs.Nodes.{IsNode};
 ghost use Rattle.volume_meaning.specs.Volumes.{IsVolume};
 ghost use Rattle.tamper_rules.specs.Rules.{Buckets, Documents, IsTrueBucket};
-ghost use Rattle.log_audit.specs.Kept.{image_of, count_of};
-ghost use Rattle.log_audit.specs.Findings.{Finds, IsMetAll};
+ghost use Rattle.log_audit.specs.Kept.{image_of_kept, count_of};
+ghost use Rattle.log_audit.specs.Findings.{FindsBroken, IsMetAll};
 ghost use Rattle.log_audit.specs.Least.{FindsPart};
 ghost use Rattle.log_audit.specs.Logs.{IsLog};
 ghost use Rattle.tree_audit.specs.Buckets.{AsksBucket};
@@ -27,12 +27,12 @@ pub fn first_broken_bucket(
     log: &Log,
     nodes: &[LevelNode],
 ) -> Option<Evidence>
-    requires volume { IsVolume geometry.now.cells (image_of kept.now) geometry.now }
+    requires volume { IsVolume geometry.now.cells (image_of_kept kept.now) geometry.now }
     requires count { count_of kept.now ≡ geometry.now.cells }
-    requires log { IsLog geometry.now (image_of kept.now) log.now }
-    requires documents { IsMetAll geometry.now (image_of kept.now) Documents }
-    requires nodes { AreNodes geometry.now (image_of kept.now) nodes.now }
-    ensures { Finds geometry.now (image_of kept.now) Buckets result }
+    requires log { IsLog geometry.now (image_of_kept kept.now) log.now }
+    requires documents { IsMetAll geometry.now (image_of_kept kept.now) Documents }
+    requires nodes { AreNodes geometry.now (image_of_kept kept.now) nodes.now }
+    ensures { FindsBroken geometry.now (image_of_kept kept.now) Buckets result }
 {
     let mut least = None;
     for place in nodes {
@@ -50,13 +50,13 @@ fn broken_in_node(
     log: &Log,
     place: &LevelNode,
 ) -> Option<Evidence>
-    requires volume { IsVolume geometry.now.cells (image_of kept.now) geometry.now }
+    requires volume { IsVolume geometry.now.cells (image_of_kept kept.now) geometry.now }
     requires count { count_of kept.now ≡ geometry.now.cells }
-    requires log { IsLog geometry.now (image_of kept.now) log.now }
-    requires documents { IsMetAll geometry.now (image_of kept.now) Documents }
-    requires node { IsNode geometry.now (image_of kept.now) place.now.level place.now.node }
-    ensures { FindsPart geometry.now (image_of kept.now) Buckets
-        (AsksBucket geometry.now (image_of kept.now) place.now.node) result }
+    requires log { IsLog geometry.now (image_of_kept kept.now) log.now }
+    requires documents { IsMetAll geometry.now (image_of_kept kept.now) Documents }
+    requires node { IsNode geometry.now (image_of_kept kept.now) place.now.level place.now.node }
+    ensures { FindsPart geometry.now (image_of_kept kept.now) Buckets
+        (AsksBucket geometry.now (image_of_kept kept.now) place.now.node) result }
 {
     let _cells = geometry.cells();
     for x in 0..NODE_BUCKETS {
@@ -79,12 +79,12 @@ fn broken_in_node(
 /// Whether bucket x of the node names a live slot, with the fingerprint of its document's identifier and on the path of
 /// that identifier.
 fn is_true_bucket(kept: &KeptCells, geometry: &Geometry, log: &Log, node: u32, x: u32) -> bool
-    requires volume { IsVolume geometry.now.cells (image_of kept.now) geometry.now }
+    requires volume { IsVolume geometry.now.cells (image_of_kept kept.now) geometry.now }
     requires count { count_of kept.now ≡ geometry.now.cells }
-    requires log { IsLog geometry.now (image_of kept.now) log.now }
-    requires documents { IsMetAll geometry.now (image_of kept.now) Documents }
+    requires log { IsLog geometry.now (image_of_kept kept.now) log.now }
+    requires documents { IsMetAll geometry.now (image_of_kept kept.now) Documents }
     requires inside { node + x < 2 ^ 32 }
-    ensures { IsTrue result ↔ IsTrueBucket geometry.now (image_of kept.now) node x }
+    ensures { IsTrue result ↔ IsTrueBucket geometry.now (image_of_kept kept.now) node x }
 {
     let Some(bucket) = bucket_at(kept, node + x) else {
         return false;

@@ -3,8 +3,8 @@ ghost use Rattle.std.specs.Prelude.{◌≡◌, ◌<◌, ◌≤◌, ◌+◌, ◌^
 ghost use Rattle.cell_types.specs.Layout.{pool_at};
 ghost use Rattle.volume_meaning.specs.Nodes.{IsNode};
 ghost use Rattle.tamper_rules.specs.Rules.{Children, Journals, LeadsDownWell, ReserveCells};
-ghost use Rattle.log_audit.specs.Kept.{image_of};
-ghost use Rattle.log_audit.specs.Findings.{Finds, IsMetAll};
+ghost use Rattle.log_audit.specs.Kept.{image_of_kept};
+ghost use Rattle.log_audit.specs.Findings.{FindsBroken, IsMetAll};
 ghost use Rattle.log_audit.specs.Least.{FindsPart};
 ghost use Rattle.log_audit.specs.Logs.{IsLog};
 ghost use Rattle.log_audit.specs.Stored.{IsStored};
@@ -12,7 +12,7 @@ ghost use Rattle.slot_audit.specs.Copying.{HasTarget};
 ghost use Rattle.list_audit.specs.Blocks.{AreListBlocks};
 ghost use Rattle.tree_audit.specs.Around.{AreAround};
 ghost use Rattle.tree_audit.specs.Children.{AsksChild, HasCopyOf, IsClear, IsJournaled, IsWellLed};
-ghost use Rattle.tree_audit.specs.Nodes.{AreNodes, HasChild};
+ghost use Rattle.tree_audit.specs.Nodes.{AreNodes, HasChildInPool};
 
 use crate::around::{Around, TARGET_STEP, around_of};
 use crate::looks::child_at;
@@ -34,12 +34,12 @@ pub fn first_broken_child(
     nodes: &[LevelNode],
     blocks: &[ListBlock],
 ) -> Result<Option<Evidence>, NoMemory>
-    requires log { IsLog geometry.now (image_of kept.now) log.now }
-    requires met { IsMetAll geometry.now (image_of kept.now) ReserveCells }
-    requires journals { IsMetAll geometry.now (image_of kept.now) Journals }
-    requires nodes { AreNodes geometry.now (image_of kept.now) nodes.now }
-    requires blocks { AreListBlocks geometry.now (image_of kept.now) blocks.now }
-    ensures { IfOk result (λ found. Finds geometry.now (image_of kept.now) Children found) }
+    requires log { IsLog geometry.now (image_of_kept kept.now) log.now }
+    requires met { IsMetAll geometry.now (image_of_kept kept.now) ReserveCells }
+    requires journals { IsMetAll geometry.now (image_of_kept kept.now) Journals }
+    requires nodes { AreNodes geometry.now (image_of_kept kept.now) nodes.now }
+    requires blocks { AreListBlocks geometry.now (image_of_kept kept.now) blocks.now }
+    ensures { IfOk result (λ found. FindsBroken geometry.now (image_of_kept kept.now) Children found) }
 {
     let around = around_of(alloc, kept, geometry, nodes, blocks)?;
     let mut least = None;
@@ -58,13 +58,13 @@ fn broken_under(
     around: &Around,
     place: &LevelNode,
 ) -> Option<Evidence>
-    requires log { IsLog geometry.now (image_of kept.now) log.now }
-    requires met { IsMetAll geometry.now (image_of kept.now) ReserveCells }
-    requires journals { IsMetAll geometry.now (image_of kept.now) Journals }
-    requires around { AreAround geometry.now (image_of kept.now) around.now }
-    requires node { IsNode geometry.now (image_of kept.now) place.now.level place.now.node }
-    ensures { FindsPart geometry.now (image_of kept.now) Children
-        (AsksChild geometry.now (image_of kept.now) place.now.level place.now.node) result }
+    requires log { IsLog geometry.now (image_of_kept kept.now) log.now }
+    requires met { IsMetAll geometry.now (image_of_kept kept.now) ReserveCells }
+    requires journals { IsMetAll geometry.now (image_of_kept kept.now) Journals }
+    requires around { AreAround geometry.now (image_of_kept kept.now) around.now }
+    requires node { IsNode geometry.now (image_of_kept kept.now) place.now.level place.now.node }
+    ensures { FindsPart geometry.now (image_of_kept kept.now) Children
+        (AsksChild geometry.now (image_of_kept kept.now) place.now.level place.now.node) result }
 {
     let _cells = geometry.cells();
     for x in 0..NODE_BUCKETS {
@@ -93,12 +93,12 @@ fn leads_down_well(
     place: &LevelNode,
     x: u32,
 ) -> bool
-    requires log { IsLog geometry.now (image_of kept.now) log.now }
-    requires met { IsMetAll geometry.now (image_of kept.now) ReserveCells }
-    requires journals { IsMetAll geometry.now (image_of kept.now) Journals }
-    requires around { AreAround geometry.now (image_of kept.now) around.now }
+    requires log { IsLog geometry.now (image_of_kept kept.now) log.now }
+    requires met { IsMetAll geometry.now (image_of_kept kept.now) ReserveCells }
+    requires journals { IsMetAll geometry.now (image_of_kept kept.now) Journals }
+    requires around { AreAround geometry.now (image_of_kept kept.now) around.now }
     requires inside { place.now.node + 16 + x < 2 ^ 31 }
-    ensures { IsTrue result ↔ LeadsDownWell geometry.now (image_of kept.now) place.now.level place.now.node x }
+    ensures { IsTrue result ↔ LeadsDownWell geometry.now (image_of_kept kept.now) place.now.level place.now.node x }
 {
     let cell = place.node + NODE_BUCKETS + x;
     let Some(target) = child_at(kept, geometry, cell) else {
@@ -123,13 +123,13 @@ fn is_well_led(
     cell: u32,
     target: u32,
 ) -> bool
-    requires log { IsLog geometry.now (image_of kept.now) log.now }
-    requires met { IsMetAll geometry.now (image_of kept.now) ReserveCells }
-    requires journals { IsMetAll geometry.now (image_of kept.now) Journals }
-    requires around { AreAround geometry.now (image_of kept.now) around.now }
+    requires log { IsLog geometry.now (image_of_kept kept.now) log.now }
+    requires met { IsMetAll geometry.now (image_of_kept kept.now) ReserveCells }
+    requires journals { IsMetAll geometry.now (image_of_kept kept.now) Journals }
+    requires around { AreAround geometry.now (image_of_kept kept.now) around.now }
     requires inside { cell < 2 ^ 31 }
-    requires leads { HasChild geometry.now (image_of kept.now) cell target }
-    ensures { IsTrue result ↔ IsWellLed geometry.now (image_of kept.now) cell target }
+    requires leads { HasChildInPool geometry.now (image_of_kept kept.now) cell target }
+    ensures { IsTrue result ↔ IsWellLed geometry.now (image_of_kept kept.now) cell target }
 {
     let _cells = geometry.cells();
     if log.edge < target + NODE_CELLS {
@@ -147,11 +147,11 @@ fn is_well_led(
 
 /// Whether the slot in whose blocks the target lies has a copy of the child cell in its journal.
 fn is_journaled(kept: &KeptCells, geometry: &Geometry, log: &Log, cell: u32, target: u32) -> bool
-    requires log { IsLog geometry.now (image_of kept.now) log.now }
-    requires met { IsMetAll geometry.now (image_of kept.now) ReserveCells }
-    requires journals { IsMetAll geometry.now (image_of kept.now) Journals }
-    requires leads { HasChild geometry.now (image_of kept.now) cell target }
-    ensures { IsTrue result ↔ IsJournaled geometry.now (image_of kept.now) cell target }
+    requires log { IsLog geometry.now (image_of_kept kept.now) log.now }
+    requires met { IsMetAll geometry.now (image_of_kept kept.now) ReserveCells }
+    requires journals { IsMetAll geometry.now (image_of_kept kept.now) Journals }
+    requires leads { HasChildInPool geometry.now (image_of_kept kept.now) cell target }
+    ensures { IsTrue result ↔ IsJournaled geometry.now (image_of_kept kept.now) cell target }
 {
     let Some(owner) = owner_of(kept, geometry, log, target) else {
         return false;
@@ -173,11 +173,11 @@ fn has_copy(
     cell: u32,
     own: Cell,
 ) -> bool
-    requires stored { IsStored geometry.now (image_of kept.now) stored.now }
-    requires journals { IsMetAll geometry.now (image_of kept.now) Journals }
-    requires itself { HasTarget (image_of kept.now) cell cell }
-    requires stands { image_of kept.now cell ≡ Some own }
-    ensures { IsTrue result ↔ HasCopyOf (image_of kept.now) stored.now cell }
+    requires stored { IsStored geometry.now (image_of_kept kept.now) stored.now }
+    requires journals { IsMetAll geometry.now (image_of_kept kept.now) Journals }
+    requires itself { HasTarget (image_of_kept kept.now) cell cell }
+    requires stands { image_of_kept kept.now cell ≡ Some own }
+    ensures { IsTrue result ↔ HasCopyOf (image_of_kept kept.now) stored.now cell }
 {
     // A copy names the cell as its target, and of a journal's targets no two are one.
     let Some(place) = journal_place_of(kept, geometry, stored, cell) else {
@@ -188,7 +188,7 @@ fn has_copy(
 
 /// Whether this stands in the cell.
 fn holds(kept: &KeptCells, at: u32, own: Cell) -> bool
-    ensures { IsTrue result ↔ (image_of kept.now at ≡ Some own) }
+    ensures { IsTrue result ↔ (image_of_kept kept.now at ≡ Some own) }
 {
     let Some(found) = kept.at(at) else {
         return false;
@@ -198,9 +198,9 @@ fn holds(kept: &KeptCells, at: u32, own: Cell) -> bool
 
 /// Whether the 32 cells from the target on meet no block and no other node.
 fn is_clear(kept: &KeptCells, geometry: &Geometry, around: &Around, target: u32) -> bool
-    requires around { AreAround geometry.now (image_of kept.now) around.now }
+    requires around { AreAround geometry.now (image_of_kept kept.now) around.now }
     requires from { pool_at geometry.now ≤ target }
-    ensures { IsTrue result ↔ IsClear geometry.now (image_of kept.now) target }
+    ensures { IsTrue result ↔ IsClear geometry.now (image_of_kept kept.now) target }
 {
     let _cells = geometry.cells();
     let at = u64::from(target);

@@ -5,7 +5,7 @@ ghost use Rattle.volume_meaning.specs.Volumes.{IsVolume};
 ghost use Rattle.volume_meaning.specs.declared.limits.TheConstants.{MAX_IDENTIFIER_BYTES};
 ghost use Rattle.document_store.specs.Heads.{id_of};
 ghost use Rattle.tamper_rules.specs.Rules.{Documents};
-ghost use Rattle.log_audit.specs.Kept.{image_of, count_of};
+ghost use Rattle.log_audit.specs.Kept.{image_of_kept, count_of};
 ghost use Rattle.log_audit.specs.Findings.{IsMetAll};
 ghost use Rattle.log_audit.specs.Logs.{IsLog};
 ghost use Rattle.tree_audit.specs.Documents.{HasDigest, HasHead};
@@ -17,12 +17,12 @@ use sha2::{Digest, Sha256};
 
 /// What stands before the body of the document of a slot, if the slot is done, where rule 4 is kept.
 pub(crate) fn head_of(kept: &KeptCells, geometry: &Geometry, log: &Log, slot: u32) -> Option<Head>
-    requires volume { IsVolume geometry.now.cells (image_of kept.now) geometry.now }
+    requires volume { IsVolume geometry.now.cells (image_of_kept kept.now) geometry.now }
     requires count { count_of kept.now ≡ geometry.now.cells }
-    requires log { IsLog geometry.now (image_of kept.now) log.now }
-    requires documents { IsMetAll geometry.now (image_of kept.now) Documents }
-    ensures some { IfSome result (λ head. HasHead geometry.now (image_of kept.now) slot head) }
-    ensures none { IfNone result ((id body : List ℕ) → Stands geometry.now.cells (image_of kept.now) slot id body → ⊥) }
+    requires log { IsLog geometry.now (image_of_kept kept.now) log.now }
+    requires documents { IsMetAll geometry.now (image_of_kept kept.now) Documents }
+    ensures some { IfSome result (λ head. HasHead geometry.now (image_of_kept kept.now) slot head) }
+    ensures none { IfNone result ((id body : List ℕ) → Stands geometry.now.cells (image_of_kept kept.now) slot id body → ⊥) }
 {
     let Some(stored) = stored_slot(kept, geometry, log, slot) else {
         return None;
@@ -45,12 +45,12 @@ pub(crate) fn digest_of(
     log: &Log,
     slot: u32,
 ) -> Option<[u8; 32]>
-    requires volume { IsVolume geometry.now.cells (image_of kept.now) geometry.now }
+    requires volume { IsVolume geometry.now.cells (image_of_kept kept.now) geometry.now }
     requires count { count_of kept.now ≡ geometry.now.cells }
-    requires log { IsLog geometry.now (image_of kept.now) log.now }
-    requires documents { IsMetAll geometry.now (image_of kept.now) Documents }
-    ensures some { IfSome result (λ digest. HasDigest geometry.now (image_of kept.now) slot digest) }
-    ensures none { IfNone result ((id body : List ℕ) → Stands geometry.now.cells (image_of kept.now) slot id body → ⊥) }
+    requires log { IsLog geometry.now (image_of_kept kept.now) log.now }
+    requires documents { IsMetAll geometry.now (image_of_kept kept.now) Documents }
+    ensures some { IfSome result (λ digest. HasDigest geometry.now (image_of_kept kept.now) slot digest) }
+    ensures none { IfNone result ((id body : List ℕ) → Stands geometry.now.cells (image_of_kept kept.now) slot id body → ⊥) }
 {
     let Some(head) = head_of(kept, geometry, log, slot) else {
         return None;

@@ -4,7 +4,7 @@ ghost use Rattle.cell_types.specs.declared.record_cell.RecordCell.TheVariants.{J
 ghost use Rattle.volume_meaning.specs.Nodes.{IsBlockOf};
 ghost use Rattle.volume_meaning.specs.Volumes.{Holds};
 ghost use Rattle.tamper_rules.specs.Rules.{LeadsWell};
-ghost use Rattle.log_audit.specs.Kept.{image_of};
+ghost use Rattle.log_audit.specs.Kept.{image_of_kept};
 ghost use Rattle.log_audit.specs.Findings.{AreMetBelow};
 ghost use Rattle.log_audit.specs.Logs.{IsLog};
 ghost use Rattle.tree_audit.specs.Leading.{IsBeforeEdge, IsOwned};
@@ -27,15 +27,15 @@ pub(crate) fn leads_well(
     level: u32,
     digit: u32,
 ) -> bool
-    requires log { IsLog geometry.now (image_of kept.now) log.now }
-    requires met { AreMetBelow geometry.now (image_of kept.now) 10 }
-    requires occupied { AreOccupied geometry.now (image_of kept.now) occupied.now }
-    requires block { IsBlockOf geometry.now (image_of kept.now) listed.now.list listed.now.block }
+    requires log { IsLog geometry.now (image_of_kept kept.now) log.now }
+    requires met { AreMetBelow geometry.now (image_of_kept kept.now) 10 }
+    requires occupied { AreOccupied geometry.now (image_of_kept kept.now) occupied.now }
+    requires block { IsBlockOf geometry.now (image_of_kept kept.now) listed.now.list listed.now.block }
     requires room { listed.now.block + 256 ≤ 2 ^ 31 }
     requires level { level < 8 }
     requires some { 1 ≤ digit }
     requires digit { digit ≤ 15 }
-    ensures { IsTrue result ↔ LeadsWell geometry.now (image_of kept.now) listed.now.list listed.now.block level digit }
+    ensures { IsTrue result ↔ LeadsWell geometry.now (image_of_kept kept.now) listed.now.list listed.now.block level digit }
 {
     let _cells = geometry.cells();
     let Some(target) = jump_at(kept, listed.block + (127 + 15 * level + digit)) else {
@@ -58,8 +58,8 @@ pub(crate) fn leads_well(
 
 /// The target of the jump cell that stands there, if one does.
 fn jump_at(kept: &KeptCells, at: u32) -> Option<u32>
-    ensures some { IfSome result (λ target. Holds (image_of kept.now) at (Jump target)) }
-    ensures none { IfNone result ((target : ℕ) → Holds (image_of kept.now) at (Jump target) → ⊥) }
+    ensures some { IfSome result (λ target. Holds (image_of_kept kept.now) at (Jump target)) }
+    ensures none { IfNone result ((target : ℕ) → Holds (image_of_kept kept.now) at (Jump target) → ⊥) }
 {
     let Some(held) = record_at(kept, at) else {
         return None;
@@ -86,10 +86,10 @@ fn is_inside(geometry: &Geometry, log: &Log, target: u32) -> bool
 
 /// Whether they lie in the block part of one slot.
 fn is_owned(kept: &KeptCells, geometry: &Geometry, log: &Log, target: u32) -> bool
-    requires log { IsLog geometry.now (image_of kept.now) log.now }
-    requires met { AreMetBelow geometry.now (image_of kept.now) 10 }
+    requires log { IsLog geometry.now (image_of_kept kept.now) log.now }
+    requires met { AreMetBelow geometry.now (image_of_kept kept.now) 10 }
     requires room { target + 256 ≤ 2 ^ 31 }
-    ensures { IsTrue result ↔ IsOwned geometry.now (image_of kept.now) target }
+    ensures { IsTrue result ↔ IsOwned geometry.now (image_of_kept kept.now) target }
 {
     let Some(first) = owner_of(kept, geometry, log, target) else {
         return false;

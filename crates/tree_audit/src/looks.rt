@@ -1,8 +1,8 @@
 //! Looks at cells of nodes.
 ghost use Rattle.cell_types.specs.declared.record_cell.RecordCell.TheVariants.{Child};
-ghost use Rattle.log_audit.specs.Kept.{image_of};
+ghost use Rattle.log_audit.specs.Kept.{image_of_kept};
 ghost use Rattle.log_audit.specs.Leads.{LeadEnds};
-ghost use Rattle.tree_audit.specs.Buckets.{BucketEnds};
+ghost use Rattle.tree_audit.specs.Buckets.{BucketAnswers};
 
 use cell_types::{Geometry, RecordCell};
 use log_audit::{KeptCells, lies_in_pool, record_at};
@@ -17,7 +17,7 @@ pub struct HeldBucket {
 
 /// What the bucket there says, if one stands there.
 pub(crate) fn bucket_at(kept: &KeptCells, at: u32) -> Option<HeldBucket>
-    ensures { BucketEnds (image_of kept.now) at result }
+    ensures { BucketAnswers (image_of_kept kept.now) at result }
 {
     let Some(held) = record_at(kept, at) else {
         return None;
@@ -30,7 +30,7 @@ pub(crate) fn bucket_at(kept: &KeptCells, at: u32) -> Option<HeldBucket>
 
 /// The node to which the child cell there leads, if there is one whose cells lie in the pool.
 pub(crate) fn child_at(kept: &KeptCells, geometry: &Geometry, at: u32) -> Option<u32>
-    ensures { LeadEnds geometry.now (image_of kept.now) (λ t. Child t) 32 at result }
+    ensures { LeadEnds geometry.now (image_of_kept kept.now) (λ t. Child t) 32 at result }
 {
     let Some(held) = record_at(kept, at) else {
         return None;

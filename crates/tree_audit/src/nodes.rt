@@ -1,8 +1,8 @@
 //! The nodes of the tree.
 ghost use Rattle.std.specs.Prelude.{◌≡◌, ◌<◌, ◌≤◌, ◌+◌, ◌^◌, ℕ, IfOk, OnOk, length, Contains};
 ghost use Rattle.std.specs.List.Sorted.{IsStrictlyIncreasing};
-ghost use Rattle.log_audit.specs.Kept.{image_of};
-ghost use Rattle.tree_audit.specs.Nodes.{AreInside, AreNodes, AreOnLevel, AreUnder, AddsLevel, AddsTargets};
+ghost use Rattle.log_audit.specs.Kept.{image_of_kept};
+ghost use Rattle.tree_audit.specs.Nodes.{AreNodesInside, AreNodes, AreOnLevel, AreUnder, AddsLevel, AddsChildTargets};
 
 use crate::looks::child_at;
 use cell_types::{Geometry, NoMemory};
@@ -27,7 +27,7 @@ pub fn nodes_of(
     kept: &KeptCells,
     geometry: &Geometry,
 ) -> Result<Vec<LevelNode>, NoMemory>
-    ensures { IfOk result (λ nodes. AreNodes geometry.now (image_of kept.now) nodes.items) }
+    ensures { IfOk result (λ nodes. AreNodes geometry.now (image_of_kept kept.now) nodes.items) }
 {
     let _cells = geometry.cells();
     let mut nodes = Vec::new(alloc);
@@ -42,7 +42,7 @@ pub fn nodes_of(
 
 /// The root alone.
 fn root_row(alloc: Global, _kept: &KeptCells, geometry: &Geometry) -> Result<Vec<u32>, NoMemory>
-    ensures { IfOk result (λ row. AreOnLevel geometry.now (image_of _kept.now) 0 row.items) }
+    ensures { IfOk result (λ row. AreOnLevel geometry.now (image_of_kept _kept.now) 0 row.items) }
 {
     let mut row = Vec::new(alloc);
     let Ok(()) = row.push(geometry.root_at()) else {
@@ -70,8 +70,8 @@ fn row_under(
     geometry: &Geometry,
     row: &[u32],
 ) -> Result<Vec<u32>, NoMemory>
-    requires { AreInside geometry.now row.now }
-    ensures { IfOk result (λ under. AreUnder geometry.now (image_of kept.now) row.now under.items) }
+    requires { AreNodesInside geometry.now row.now }
+    ensures { IfOk result (λ under. AreUnder geometry.now (image_of_kept kept.now) row.now under.items) }
 {
     let _cells = geometry.cells();
     let mut under = Vec::new(alloc);
@@ -91,7 +91,7 @@ fn push_targets(
     targets: &mut Vec<u32>,
 ) -> Result<(), NoMemory>
     requires { node + 32 < 2 ^ 32 }
-    ensures { OnOk result (AddsTargets geometry.now (image_of kept.now) node 32 targets.old.items targets.new.items) }
+    ensures { OnOk result (AddsChildTargets geometry.now (image_of_kept kept.now) node 32 targets.old.items targets.new.items) }
 {
     for place in NODE_BUCKETS..NODE_CELLS {
         let Some(target) = child_at(kept, geometry, node + place) else {

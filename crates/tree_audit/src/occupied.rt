@@ -1,6 +1,6 @@
 //! The cells that blocks and nodes take.
 ghost use Rattle.std.specs.Prelude.{◌≡◌, ◌<◌, ◌≤◌, ◌↔◌, IsTrue, IfOk};
-ghost use Rattle.log_audit.specs.Kept.{image_of};
+ghost use Rattle.log_audit.specs.Kept.{image_of_kept};
 ghost use Rattle.list_audit.specs.Blocks.{AreListBlocks};
 ghost use Rattle.tree_audit.specs.Nodes.{AreNodes};
 ghost use Rattle.tree_audit.specs.Occupied as occupied;
@@ -35,9 +35,9 @@ impl OccupiedCells {
         blocks: &[ListBlock],
         nodes: &[LevelNode],
     ) -> Result<OccupiedCells, NoMemory>
-        requires blocks { AreListBlocks geometry.now (image_of kept.now) blocks.now }
-        requires nodes { AreNodes geometry.now (image_of kept.now) nodes.now }
-        ensures { IfOk result (λ occupied. AreOccupied geometry.now (image_of kept.now) occupied) }
+        requires blocks { AreListBlocks geometry.now (image_of_kept kept.now) blocks.now }
+        requires nodes { AreNodes geometry.now (image_of_kept kept.now) nodes.now }
+        ensures { IfOk result (λ occupied. AreOccupied geometry.now (image_of_kept kept.now) occupied) }
     {
         let mut numbers = block_numbers(alloc, blocks)?;
         sort_once(&mut numbers);
@@ -57,9 +57,9 @@ impl OccupiedCells {
         list: u16,
         target: u32,
     ) -> bool
-        requires occupied { AreOccupied _geometry.now (image_of _kept.now) self.now }
+        requires occupied { AreOccupied _geometry.now (image_of_kept _kept.now) self.now }
         requires room { 256 ≤ target }
-        ensures { IsTrue result ↔ IsAlone _geometry.now (image_of _kept.now) list target }
+        ensures { IsTrue result ↔ IsAlone _geometry.now (image_of_kept _kept.now) list target }
     {
         let own = u64::from(target) * BLOCK_STEP + u64::from(list);
         let first = u64::from(target - (BLOCK_CELLS - 1)) * BLOCK_STEP;
@@ -72,9 +72,9 @@ impl OccupiedCells {
 
     /// Whether they meet no node.
     pub(crate) fn is_off_nodes(&self, _kept: &KeptCells, _geometry: &Geometry, target: u32) -> bool
-        requires occupied { AreOccupied _geometry.now (image_of _kept.now) self.now }
+        requires occupied { AreOccupied _geometry.now (image_of_kept _kept.now) self.now }
         requires room { 256 ≤ target }
-        ensures { IsTrue result ↔ IsOffNodes _geometry.now (image_of _kept.now) target }
+        ensures { IsTrue result ↔ IsOffNodes _geometry.now (image_of_kept _kept.now) target }
     {
         let first = u64::from(target - (NODE_CELLS - 1));
         let behind = u64::from(target) + u64::from(BLOCK_CELLS);

@@ -1,6 +1,6 @@
 //! The paths of digests.
 ghost use Rattle.std.specs.Prelude.{◌↔◌, IsTrue};
-ghost use Rattle.log_audit.specs.Kept.{image_of};
+ghost use Rattle.log_audit.specs.Kept.{image_of_kept};
 ghost use Rattle.tree_audit.specs.Paths.{GoesBy};
 
 use crate::looks::child_at;
@@ -20,7 +20,7 @@ pub(crate) fn goes_by(
     node: u32,
     x: u32,
 ) -> bool
-    ensures { IsTrue result ↔ GoesBy geometry.now (image_of kept.now) digest.now node x }
+    ensures { IsTrue result ↔ GoesBy geometry.now (image_of_kept kept.now) digest.now node x }
 {
     let _cells = geometry.cells();
     let mut at = geometry.root_at();

@@ -15,9 +15,9 @@
 ghost use Rattle.std.specs.Prelude.{◌<◌, ◌≤◌, ◌+◌, ◌^◌, IfOk};
 ghost use Rattle.volume_meaning.specs.Nodes.{IsBlockOf};
 ghost use Rattle.tamper_rules.specs.Rules.{Pointers};
-ghost use Rattle.log_audit.specs.Kept.{image_of};
+ghost use Rattle.log_audit.specs.Kept.{image_of_kept};
 ghost use Rattle.list_audit.specs.Blocks.{AreListBlocks};
-ghost use Rattle.log_audit.specs.Findings.{AreMetBelow, Finds};
+ghost use Rattle.log_audit.specs.Findings.{AreMetBelow, FindsBroken};
 ghost use Rattle.log_audit.specs.Least.{FindsPart};
 ghost use Rattle.log_audit.specs.Logs.{IsLog};
 ghost use Rattle.tree_audit.specs.Nodes.{AreNodes};
@@ -54,11 +54,11 @@ pub fn first_broken_pointer(
     blocks: &[ListBlock],
     nodes: &[LevelNode],
 ) -> Result<Option<Evidence>, NoMemory>
-    requires log { IsLog geometry.now (image_of kept.now) log.now }
-    requires met { AreMetBelow geometry.now (image_of kept.now) 10 }
-    requires blocks { AreListBlocks geometry.now (image_of kept.now) blocks.now }
-    requires nodes { AreNodes geometry.now (image_of kept.now) nodes.now }
-    ensures { IfOk result (λ found. Finds geometry.now (image_of kept.now) Pointers found) }
+    requires log { IsLog geometry.now (image_of_kept kept.now) log.now }
+    requires met { AreMetBelow geometry.now (image_of_kept kept.now) 10 }
+    requires blocks { AreListBlocks geometry.now (image_of_kept kept.now) blocks.now }
+    requires nodes { AreNodes geometry.now (image_of_kept kept.now) nodes.now }
+    ensures { IfOk result (λ found. FindsBroken geometry.now (image_of_kept kept.now) Pointers found) }
 {
     let occupied = OccupiedCells::of(alloc, kept, geometry, blocks, nodes)?;
     let mut least = None;
@@ -76,12 +76,12 @@ fn first_in_block(
     occupied: &OccupiedCells,
     listed: &ListBlock,
 ) -> Option<Evidence>
-    requires log { IsLog geometry.now (image_of kept.now) log.now }
-    requires met { AreMetBelow geometry.now (image_of kept.now) 10 }
-    requires occupied { AreOccupied geometry.now (image_of kept.now) occupied.now }
-    requires block { IsBlockOf geometry.now (image_of kept.now) listed.now.list listed.now.block }
-    ensures { FindsPart geometry.now (image_of kept.now) Pointers
-        (PointerAsks geometry.now (image_of kept.now) listed.now.list listed.now.block) result }
+    requires log { IsLog geometry.now (image_of_kept kept.now) log.now }
+    requires met { AreMetBelow geometry.now (image_of_kept kept.now) 10 }
+    requires occupied { AreOccupied geometry.now (image_of_kept kept.now) occupied.now }
+    requires block { IsBlockOf geometry.now (image_of_kept kept.now) listed.now.list listed.now.block }
+    ensures { FindsPart geometry.now (image_of_kept kept.now) Pointers
+        (PointerAsks geometry.now (image_of_kept kept.now) listed.now.list listed.now.block) result }
 {
     let _cells = geometry.cells();
     for pointer in 0..POINTER_PLACES {

@@ -2,7 +2,7 @@
 ghost use Rattle.std.specs.Prelude.{◌≡◌, ◌<◌, ◌≤◌, ◌+◌, ◌^◌, ◌↔◌, IsTrue};
 ghost use Rattle.tamper_rules.specs.Rules.{Entries};
 ghost use Rattle.volume_meaning.specs.Nodes.{IsBlockOf};
-ghost use Rattle.log_audit.specs.Kept.{image_of};
+ghost use Rattle.log_audit.specs.Kept.{image_of_kept};
 ghost use Rattle.log_audit.specs.Findings.{IsMetAll};
 ghost use Rattle.tree_audit.specs.Leading.{HasKeyBetween, IsInSpan};
 
@@ -20,15 +20,15 @@ pub(crate) fn is_in_span(
     digit: u32,
     target: u32,
 ) -> bool
-    requires entries { IsMetAll _geometry.now (image_of kept.now) Entries }
-    requires block { IsBlockOf _geometry.now (image_of kept.now) listed.now.list listed.now.block }
-    requires target { IsBlockOf _geometry.now (image_of kept.now) listed.now.list target }
+    requires entries { IsMetAll _geometry.now (image_of_kept kept.now) Entries }
+    requires block { IsBlockOf _geometry.now (image_of_kept kept.now) listed.now.list listed.now.block }
+    requires target { IsBlockOf _geometry.now (image_of_kept kept.now) listed.now.list target }
     requires room { listed.now.block + 256 ≤ 2 ^ 31 }
     requires space { target + 256 ≤ 2 ^ 31 }
     requires level { level < 8 }
     requires some { 1 ≤ digit }
     requires digit { digit ≤ 15 }
-    ensures { IsTrue result ↔ IsInSpan (image_of kept.now) listed.now.block level digit target }
+    ensures { IsTrue result ↔ IsInSpan (image_of_kept kept.now) listed.now.block level digit target }
 {
     let Some(greatest) = posting_at(kept, listed.block + 127) else {
         return false;
@@ -59,7 +59,7 @@ fn span_width(level: u32) -> u64
 /// Whether a posting with a key from `low` on and below `high` stands in an entry place of a block.
 fn has_key_between(kept: &KeptCells, block: u32, low: u64, high: u64) -> bool
     requires { block + 256 ≤ 2 ^ 31 }
-    ensures { IsTrue result ↔ HasKeyBetween (image_of kept.now) block low high }
+    ensures { IsTrue result ↔ HasKeyBetween (image_of_kept kept.now) block low high }
 {
     for place in 0..u32::from(ENTRY_PLACES) {
         let Some(posting) = posting_at(kept, block + place) else {

@@ -5,10 +5,10 @@ ghost use Rattle.volume_meaning.specs.Volumes.{IsVolume};
 ghost use Rattle.volume_meaning.specs.declared.limits.TheConstants.{MAX_IDENTIFIER_BYTES};
 ghost use Rattle.tamper_rules.specs.Rules.{Documents, Paths};
 ghost use Rattle.document_store.specs.Heads.{id_of};
-ghost use Rattle.log_audit.specs.Kept.{image_of, count_of};
-ghost use Rattle.log_audit.specs.Findings.{Finds, IsMetAll};
+ghost use Rattle.log_audit.specs.Kept.{image_of_kept, count_of};
+ghost use Rattle.log_audit.specs.Findings.{FindsBroken, IsMetAll};
 ghost use Rattle.log_audit.specs.Logs.{IsLog};
-ghost use Rattle.tree_audit.specs.Paths.{HasTrail, IsOther, IsOwn};
+ghost use Rattle.tree_audit.specs.Paths.{HasRootTrail, IsOther, IsBucketOfSlot};
 
 use crate::buckets::is_fingerprint;
 use crate::documents::{head_of, identifier, same_identifier};
@@ -25,11 +25,11 @@ use volume_meaning::NODE_BUCKETS;
 /// The first done cell at which rule 14 is broken, where rule 4 is kept. Only hash trails are looked for: of two
 /// documents with one identifier one alone has such a trail.
 pub fn first_broken_path(kept: &KeptCells, geometry: &Geometry, log: &Log) -> Option<Evidence>
-    requires volume { IsVolume geometry.now.cells (image_of kept.now) geometry.now }
+    requires volume { IsVolume geometry.now.cells (image_of_kept kept.now) geometry.now }
     requires count { count_of kept.now ≡ geometry.now.cells }
-    requires log { IsLog geometry.now (image_of kept.now) log.now }
-    requires documents { IsMetAll geometry.now (image_of kept.now) Documents }
-    ensures { Finds geometry.now (image_of kept.now) Paths result }
+    requires log { IsLog geometry.now (image_of_kept kept.now) log.now }
+    requires documents { IsMetAll geometry.now (image_of_kept kept.now) Documents }
+    ensures { FindsBroken geometry.now (image_of_kept kept.now) Paths result }
 {
     for slot in 0..geometry.slots() {
         let Some(head) = head_of(kept, geometry, log, slot) else {
@@ -53,12 +53,12 @@ pub fn first_broken_path(kept: &KeptCells, geometry: &Geometry, log: &Log) -> Op
 
 /// Whether the slot has a hash trail as that of the head's identifier.
 fn has_hash_trail(kept: &KeptCells, geometry: &Geometry, log: &Log, slot: u32, head: &Head) -> bool
-    requires volume { IsVolume geometry.now.cells (image_of kept.now) geometry.now }
+    requires volume { IsVolume geometry.now.cells (image_of_kept kept.now) geometry.now }
     requires count { count_of kept.now ≡ geometry.now.cells }
-    requires log { IsLog geometry.now (image_of kept.now) log.now }
-    requires documents { IsMetAll geometry.now (image_of kept.now) Documents }
+    requires log { IsLog geometry.now (image_of_kept kept.now) log.now }
+    requires documents { IsMetAll geometry.now (image_of_kept kept.now) Documents }
     requires room { head.now.id_length ≤ MAX_IDENTIFIER_BYTES }
-    ensures { IsTrue result ↔ HasTrail geometry.now (image_of kept.now) (id_of head.now) slot }
+    ensures { IsTrue result ↔ HasRootTrail geometry.now (image_of_kept kept.now) (id_of head.now) slot }
 {
     let _cells = geometry.cells();
     let digest = Sha256::digest(identifier(head));
@@ -84,7 +84,7 @@ fn has_hash_trail(kept: &KeptCells, geometry: &Geometry, log: &Log, slot: u32, h
 
 /// Whether the bucket is the slot's own.
 fn is_own(bucket: &HeldBucket, slot: u32, digest: &[u8; 32]) -> bool
-    ensures { IsTrue result ↔ IsOwn bucket.now slot digest.now }
+    ensures { IsTrue result ↔ IsBucketOfSlot bucket.now slot digest.now }
 {
     if bucket.slot != slot {
         return false;
@@ -101,13 +101,13 @@ fn is_passed(
     head: &Head,
     digest: &[u8; 32],
 ) -> bool
-    requires volume { IsVolume geometry.now.cells (image_of kept.now) geometry.now }
+    requires volume { IsVolume geometry.now.cells (image_of_kept kept.now) geometry.now }
     requires count { count_of kept.now ≡ geometry.now.cells }
-    requires log { IsLog geometry.now (image_of kept.now) log.now }
-    requires documents { IsMetAll geometry.now (image_of kept.now) Documents }
+    requires log { IsLog geometry.now (image_of_kept kept.now) log.now }
+    requires documents { IsMetAll geometry.now (image_of_kept kept.now) Documents }
     requires room { head.now.id_length ≤ MAX_IDENTIFIER_BYTES }
     requires digest { digest.now ≡ sha256 (id_of head.now) }
-    ensures { IsTrue result ↔ IsOther geometry.now (image_of kept.now) (id_of head.now) bucket.now }
+    ensures { IsTrue result ↔ IsOther geometry.now (image_of_kept kept.now) (id_of head.now) bucket.now }
 {
     if !is_fingerprint(&bucket.fingerprint, digest) {
         return true;

@@ -23,9 +23,9 @@ use Rattle.recovery_engine.specs.declared.settling.Ready.{Ready}
 use Rattle.commit_record.specs.Opening.{StatedBy, refusal_of}
 use Rattle.commit_record.specs.declared.opening.OpenRefusal.{OpenRefusal}
 use Rattle.commit_record.specs.declared.opening.OpenRefusal.TheVariants as opens
-use Rattle.log_audit.specs.Kept.{KeepEnds, IsKept, image_of, count_of}
+use Rattle.log_audit.specs.Kept.{KeepEnds, IsKeptBetween, image_of_kept, count_of}
 use Rattle.log_audit.specs.declared.kept.KeptCells.{KeptCells}
-use Rattle.log_audit.specs.Findings.{IsFirst}
+use Rattle.log_audit.specs.Findings.{IsFirstBroken}
 use Rattle.log_audit.specs.Logs.{IsUnended}
 use Rattle.volume_audit.specs.Audits.{AuditEnds, Audits, settled, settling}
 use Rattle.tamper_rules.specs.Settling.{IsSettled}
@@ -35,14 +35,14 @@ use Rattle.volume_audit.specs.declared.report.AuditReport.{AuditReport}
 use Rattle.volume_audit.proofs.Ended.{no_unended}
 
 -- where the evidence lies
-place_of : (g : Layout) (image : Image) (e : Evidence) → IsFirst g image e ⊎ IsUnended g image e → IsPlaceOf g e.rule e.cell
+place_of : (g : Layout) (image : Image) (e : Evidence) → IsFirstBroken g image e ⊎ IsUnended g image e → IsPlaceOf g e.rule e.cell
 place_of g image e named = ⊎_elim
-    (λ (f : IsFirst g image e). (f.rule, f.least.number, f.least.place))
+    (λ (f : IsFirstBroken g image e). (f.rule, f.least.number, f.least.place))
     (λ u. (ReserveCells, u.rule, (u.slot, u.inside, u.cell)))
     named
 
-stands_of : (g : Layout) (image : Image) (e : Evidence) → IsFirst g image e ⊎ IsUnended g image e → image e.cell ≡ Some e.found
-stands_of g image e named = ⊎_elim (λ (f : IsFirst g image e). f.least.stands) (λ u. u.stands) named
+stands_of : (g : Layout) (image : Image) (e : Evidence) → IsFirstBroken g image e ⊎ IsUnended g image e → image e.cell ≡ Some e.found
+stands_of g image e named = ⊎_elim (λ (f : IsFirstBroken g image e). f.least.stands) (λ u. u.stands) named
 
 -- the volume that a cell states
 pub stated_volume : {image : Image} {cells : ℕ} {volume : Volume} → StatedBy (image 0) cells (Ok volume)
@@ -68,15 +68,15 @@ module _ {old mid new : DeviceState} (r : Ready) (settles : Settles old mid (Ok 
   unkept refusal ends = absurd ends
 
   module _ (kept : KeptCells) (ends : KeepEnds mid new (Ok kept)) where
-    is_kept : IsTrue old.tells → IsKept mid new kept
+    is_kept : IsTrue old.tells → IsKeptBetween mid new kept
     is_kept tells = ends.2 (subst IsTrue (sym settles.called.tells) tells)
 
     -- cell 0 states the volume that was settled
-    was_volume : IsTrue old.tells → IsVolume mid.cells (image_of kept) r.volume.geometry
+    was_volume : IsTrue old.tells → IsVolume mid.cells (image_of_kept kept) r.volume.geometry
     was_volume tells = volume_on (is_kept tells).above (settles.ends.1 tells).volume
 
     -- so nothing else is read there
-    pub no_volume : (why : OpenRefusal) → StatedBy (image_of kept 0) (count_of kept) (Err why) → Audits old new (Err (refusal_of why))
+    pub no_volume : (why : OpenRefusal) → StatedBy (image_of_kept kept 0) (count_of kept) (Err why) → Audits old new (Err (refusal_of why))
     no_volume opens.NotFormatted stated = audited (λ tells. let v = (was_volume tells).volume in
         none-some v.cell (sym stated ∙ v.stands))
     no_volume (opens.NotAVolume found) stated = audited (λ tells. let v = (was_volume tells).volume in
@@ -84,7 +84,7 @@ module _ {old mid new : DeviceState} (r : Ready) (settles : Settles old mid (Ok 
         let same : v.cell ≡ found = cc in
         stated.1 r.volume.geometry (subst (IsRecordCell (volume_record r.volume.geometry) 0) same v.is))
     no_volume (opens.WrongSize size real) stated = audited (λ tells.
-        let other : IsVolume size (image_of kept) stated.2 = record {
+        let other : IsVolume size (image_of_kept kept) stated.2 = record {
           volume = record { cell = stated.3.0; stands = stated.3.1; is = stated.3.2 };
           size = stated.4;
         } in
@@ -93,7 +93,7 @@ module _ {old mid new : DeviceState} (r : Ready) (settles : Settles old mid (Ok 
         omega (arith, g_size, stated.4, (was_volume tells).size, stated.0, ends.0, called.cells)))
     no_volume opens.ReadFault stated = absurd stated
 
-    module _ (g : Layout) (volume : IsVolume g.cells (image_of kept) g) where
+    module _ (g : Layout) (volume : IsVolume g.cells (image_of_kept kept) g) where
       -- the volume is the one that was settled
       same_layout : IsTrue old.tells → g ≡ r.volume.geometry
       same_layout tells = one_layout {cells = g.cells} {more = mid.cells} g r.volume.geometry volume (was_volume tells)
@@ -104,31 +104,31 @@ module _ {old mid new : DeviceState} (r : Ready) (settles : Settles old mid (Ok 
         size = ap (λ (h : Layout). h.cells) (same_layout tells) ∙ (was_volume tells).size ∙ sym called.cells;
       })
 
-      same : IsTrue old.tells → IsStill old.foreign_writes new.foreign_writes → image_of kept ≡ new.image
+      same : IsTrue old.tells → IsStill old.foreign_writes new.foreign_writes → image_of_kept kept ≡ new.image
       same tells still = (is_kept tells).quiet (still_second settles.called.foreign_writes called.foreign_writes still)
 
       -- what is kept stood there once the volume was settled, where nobody else wrote
-      settled_same : IsTrue old.tells → IsStill old.foreign_writes new.foreign_writes → image_of kept ≡ mid.image
+      settled_same : IsTrue old.tells → IsStill old.foreign_writes new.foreign_writes → image_of_kept kept ≡ mid.image
       settled_same tells still = (is_kept tells).before (still_second settles.called.foreign_writes called.foreign_writes still)
 
       first_on : (e : Evidence) → IsTrue old.tells → IsStill old.foreign_writes new.foreign_writes
-          → IsFirst g (image_of kept) e ⊎ IsUnended g (image_of kept) e → IsFirst g new.image e
+          → IsFirstBroken g (image_of_kept kept) e ⊎ IsUnended g (image_of_kept kept) e → IsFirstBroken g new.image e
       first_on e tells still named = ⊎_elim
-          (λ (f : IsFirst g (image_of kept) e). subst (λ (i : Image). IsFirst g i e) (same tells still) f)
+          (λ (f : IsFirstBroken g (image_of_kept kept) e). subst (λ (i : Image). IsFirstBroken g i e) (same tells still) f)
           (λ u. absurd (no_unended r e (settles.ends.1 tells) device
           (still_first settles.called.foreign_writes called.foreign_writes still)
           (subst (λ (h : Layout). IsUnended h mid.image e) (same_layout tells)
           (subst (λ (i : Image). IsUnended g i e) (settled_same tells still) u))))
           named
 
-      named_first : (e : Evidence) → IsFirst g (image_of kept) e ⊎ IsUnended g (image_of kept) e
+      named_first : (e : Evidence) → IsFirstBroken g (image_of_kept kept) e ⊎ IsUnended g (image_of_kept kept) e
           → AuditEnds old new (Err (refusals.Tampered e))
       named_first e named tells = (
         record {
-          stands = (is_kept tells).below.keeps e.cell e.found (stands_of g (image_of kept) e named);
+          stands = (is_kept tells).below.keeps e.cell e.found (stands_of g (image_of_kept kept) e named);
           layout = g;
           volume = volume_new tells;
-          place = place_of g (image_of kept) e named;
+          place = place_of g (image_of_kept kept) e named;
           broken = λ still. let f = first_on e tells still named in record {
             layout = g;
             volume = volume_new tells;
@@ -142,7 +142,7 @@ module _ {old mid new : DeviceState} (r : Ready) (settles : Settles old mid (Ok 
         λ still. record { layout = g; volume = volume_new tells; first = first_on e tells still named },
       )
 
-      ended : (result : Result AuditReport Refusal) → Judges g (image_of kept) result → AuditEnds old new result
+      ended : (result : Result AuditReport Refusal) → Judges g (image_of_kept kept) result → AuditEnds old new result
       ended (Ok report) judges = λ tells still. record {
         layout = g;
         volume = volume_new tells;
@@ -153,7 +153,7 @@ module _ {old mid new : DeviceState} (r : Ready) (settles : Settles old mid (Ok 
       ended (Err refusals.NoMemory) judges = judges
       ended (Err refusal) judges = absurd judges
 
-      pub audits : (result : Result AuditReport Refusal) → Judges g (image_of kept) result → Audits old new result
+      pub audits : (result : Result AuditReport Refusal) → Judges g (image_of_kept kept) result → Audits old new result
       audits result judges = audited (ended result judges)
 
 -- settling was ended

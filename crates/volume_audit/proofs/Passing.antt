@@ -5,13 +5,13 @@ use Rattle.cell_types.specs.Layout.{Layout}
 use Rattle.cell_types.specs.declared.refusal.Evidence.{Evidence}
 use Rattle.cell_types.specs.declared.refusal.Refusal.{Refusal}
 use Rattle.tamper_rules.specs.Rules.{Rule, number_of}
-use Rattle.log_audit.specs.Findings.{AreMetBelow, Finds}
+use Rattle.log_audit.specs.Findings.{AreMetBelow, FindsBroken}
 use Rattle.log_audit.proofs.Numbers.{below_next}
 use Rattle.log_audit.proofs.Stopping.{first_found}
-use Rattle.volume_audit.specs.Judging.{Passes, Refuses}
+use Rattle.volume_audit.specs.Judging.{Passes, RefusesFound}
 
 pub passes : (g : Layout) (image : Image) (rule : Rule) (found : Option Evidence) (result : Result Unit Refusal)
-    → AreMetBelow g image (number_of rule) → Finds g image rule found → Refuses found result
+    → AreMetBelow g image (number_of rule) → FindsBroken g image rule found → RefusesFound found result
     → Passes g image (number_of rule + 1) result
 passes g image rule None result lower finds refuses =
     subst (Passes g image (number_of rule + 1)) (sym refuses) (below_next rule lower finds)

@@ -12,7 +12,7 @@ use Rattle.worm_device.specs.State.{DeviceState}
 use Rattle.commit_record.specs.Licences.{IsLicensed}
 use Rattle.recovery_engine.specs.Settling.{HasSettled, Settles}
 use Rattle.recovery_engine.specs.declared.settling.Ready.{Ready}
-use Rattle.log_audit.specs.Findings.{IsFirst}
+use Rattle.log_audit.specs.Findings.{IsFirstBroken}
 use Rattle.volume_audit.specs.Reports.{IsSound}
 use Rattle.volume_audit.specs.declared.report.AuditReport.{AuditReport}
 
@@ -20,7 +20,7 @@ use Rattle.volume_audit.specs.declared.report.AuditReport.{AuditReport}
 pub record IsFirstOn (cells : ℕ) (image : Image) (e : Evidence) : Type 0 where
   pub layout : Layout
   pub volume : IsVolume cells image layout
-  pub first : IsFirst layout image e
+  pub first : IsFirstBroken layout image e
 
 -- How auditing a volume that is settled may end, and why. Where nobody else wrote it is sound at exit just where each rule
 -- is kept there, and otherwise the least rule that is broken is named at its least cell. That cell 0 is no volume cell any

@@ -6,7 +6,7 @@ use Rattle.cell_types.specs.declared.refusal.Evidence.{Evidence}
 use Rattle.cell_types.specs.declared.refusal.Refusal.{Refusal}
 use Rattle.cell_types.specs.declared.refusal.Refusal.TheVariants.{Tampered, NoMemory}
 use Rattle.tamper_rules.specs.Settling.{IsSettled}
-use Rattle.log_audit.specs.Findings.{AreMetBelow, IsFirst, Stops}
+use Rattle.log_audit.specs.Findings.{AreMetBelow, IsFirstBroken, Stops}
 use Rattle.log_audit.specs.Logs.{IsUnended}
 use Rattle.volume_audit.specs.Reports.{IsReport}
 use Rattle.volume_audit.specs.declared.report.AuditReport.{AuditReport}
@@ -17,14 +17,14 @@ Passes g image number (Ok u) = AreMetBelow g image number
 Passes g image number (Err refusal) = Stops g image refusal
 
 -- what was found is the refusal, and nothing that was found is none
-abbrev pub Refuses : Option Evidence → Result Unit Refusal → Type 0
-Refuses None result = result ≡ Ok tt
-Refuses (Some e) result = result ≡ Err (Tampered e)
+abbrev pub RefusesFound : Option Evidence → Result Unit Refusal → Type 0
+RefusesFound None result = result ≡ Ok tt
+RefusesFound (Some e) result = result ≡ Err (Tampered e)
 
 -- How checking all rules may end, and why: the image is settled, and these are its numbers; or the least rule that is
 -- broken is named at its least cell; or a slot has not ended.
 abbrev pub Judges : Layout → Image → Result AuditReport Refusal → Type 0
 Judges g image (Ok report) = IsSettled g image × IsReport g image report
-Judges g image (Err (Tampered e)) = IsFirst g image e ⊎ IsUnended g image e
+Judges g image (Err (Tampered e)) = IsFirstBroken g image e ⊎ IsUnended g image e
 Judges g image (Err NoMemory) = ⊤
 Judges g image (Err refusal) = ⊥

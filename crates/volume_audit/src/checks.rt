@@ -1,20 +1,20 @@
 //! The checks of one rule each: a rule that is broken is a refusal.
 ghost use Rattle.std.specs.Prelude.{◌≡◌};
 ghost use Rattle.volume_meaning.specs.Volumes.{IsVolume};
-ghost use Rattle.log_audit.specs.Kept.{image_of, count_of};
+ghost use Rattle.log_audit.specs.Kept.{image_of_kept, count_of};
 ghost use Rattle.list_audit.specs.Blocks.{AreListBlocks};
 ghost use Rattle.log_audit.specs.Findings.{AreMetBelow};
 ghost use Rattle.log_audit.specs.Logs.{IsLog};
 ghost use Rattle.tree_audit.specs.Nodes.{AreNodes};
-ghost use Rattle.volume_audit.specs.Judging.{Passes, Refuses};
+ghost use Rattle.volume_audit.specs.Judging.{Passes, RefusesFound};
 
 use cell_types::{Evidence, Geometry, Refusal};
 use host_ports::Meter;
 use list_audit::{ListBlock, first_broken_entry, first_broken_posting, first_broken_trail};
 use log_audit::{KeptCells, Log};
 use slot_audit::{
-    first_broken_document, first_broken_journal, first_broken_target, first_broken_tiling,
-    first_stray,
+    first_broken_document, first_broken_journal, first_broken_stray, first_broken_target,
+    first_broken_tiling,
 };
 use std::alloc::Global;
 use tree_audit::{
@@ -23,7 +23,7 @@ use tree_audit::{
 
 /// Ends the audit with what was found, if something was.
 fn refuse(found: Option<Evidence>) -> Result<(), Refusal>
-    ensures { Refuses found result }
+    ensures { RefusesFound found result }
 {
     match found {
         Some(evidence) => Err(Refusal::Tampered(evidence)),
@@ -37,10 +37,10 @@ pub(crate) fn check_documents(
     geometry: &Geometry,
     log: &Log,
 ) -> Result<(), Refusal>
-    requires log { IsLog geometry.now (image_of kept.now) log.now }
+    requires log { IsLog geometry.now (image_of_kept kept.now) log.now }
     requires count { count_of kept.now ≡ geometry.now.cells }
-    requires met { AreMetBelow geometry.now (image_of kept.now) 4 }
-    ensures { Passes geometry.now (image_of kept.now) 5 result }
+    requires met { AreMetBelow geometry.now (image_of_kept kept.now) 4 }
+    ensures { Passes geometry.now (image_of_kept kept.now) 5 result }
 {
     refuse(first_broken_document(kept, geometry, log))
 }
@@ -51,18 +51,18 @@ pub(crate) fn check_journals(
     geometry: &Geometry,
     log: &Log,
 ) -> Result<(), Refusal>
-    requires log { IsLog geometry.now (image_of kept.now) log.now }
-    requires met { AreMetBelow geometry.now (image_of kept.now) 5 }
-    ensures { Passes geometry.now (image_of kept.now) 6 result }
+    requires log { IsLog geometry.now (image_of_kept kept.now) log.now }
+    requires met { AreMetBelow geometry.now (image_of_kept kept.now) 5 }
+    ensures { Passes geometry.now (image_of_kept kept.now) 6 result }
 {
     refuse(first_broken_journal(kept, geometry, log))
 }
 
 /// Rule 6: what journals copy stands at its target.
 pub(crate) fn check_targets(kept: &KeptCells, geometry: &Geometry, log: &Log) -> Result<(), Refusal>
-    requires log { IsLog geometry.now (image_of kept.now) log.now }
-    requires met { AreMetBelow geometry.now (image_of kept.now) 6 }
-    ensures { Passes geometry.now (image_of kept.now) 7 result }
+    requires log { IsLog geometry.now (image_of_kept kept.now) log.now }
+    requires met { AreMetBelow geometry.now (image_of_kept kept.now) 6 }
+    ensures { Passes geometry.now (image_of_kept kept.now) 7 result }
 {
     refuse(first_broken_target(kept, geometry, log))
 }
@@ -74,12 +74,12 @@ pub(crate) fn check_strays(
     geometry: &Geometry,
     log: &Log,
 ) -> Result<(), Refusal>
-    requires log { IsLog geometry.now (image_of kept.now) log.now }
+    requires log { IsLog geometry.now (image_of_kept kept.now) log.now }
     requires count { count_of kept.now ≡ geometry.now.cells }
-    requires met { AreMetBelow geometry.now (image_of kept.now) 7 }
-    ensures { Passes geometry.now (image_of kept.now) 8 result }
+    requires met { AreMetBelow geometry.now (image_of_kept kept.now) 7 }
+    ensures { Passes geometry.now (image_of_kept kept.now) 8 result }
 {
-    refuse(first_stray(alloc, kept, geometry, log)?)
+    refuse(first_broken_stray(alloc, kept, geometry, log)?)
 }
 
 /// Rule 8: what stands in blocks is in order.
@@ -88,9 +88,9 @@ pub(crate) fn check_entries(
     geometry: &Geometry,
     blocks: &[ListBlock],
 ) -> Result<(), Refusal>
-    requires blocks { AreListBlocks geometry.now (image_of kept.now) blocks.now }
-    requires met { AreMetBelow geometry.now (image_of kept.now) 8 }
-    ensures { Passes geometry.now (image_of kept.now) 9 result }
+    requires blocks { AreListBlocks geometry.now (image_of_kept kept.now) blocks.now }
+    requires met { AreMetBelow geometry.now (image_of_kept kept.now) 8 }
+    ensures { Passes geometry.now (image_of_kept kept.now) 9 result }
 {
     refuse(first_broken_entry(kept, geometry, blocks))
 }
@@ -104,11 +104,11 @@ pub(crate) fn check_postings<M: Meter>(
     blocks: &[ListBlock],
     meter: &mut M,
 ) -> Result<(), Refusal>
-    requires volume { IsVolume geometry.now.cells (image_of kept.now) geometry.now }
-    requires log { IsLog geometry.now (image_of kept.now) log.now }
-    requires blocks { AreListBlocks geometry.now (image_of kept.now) blocks.now }
-    requires met { AreMetBelow geometry.now (image_of kept.now) 9 }
-    ensures { Passes geometry.now (image_of kept.now) 10 result }
+    requires volume { IsVolume geometry.now.cells (image_of_kept kept.now) geometry.now }
+    requires log { IsLog geometry.now (image_of_kept kept.now) log.now }
+    requires blocks { AreListBlocks geometry.now (image_of_kept kept.now) blocks.now }
+    requires met { AreMetBelow geometry.now (image_of_kept kept.now) 9 }
+    ensures { Passes geometry.now (image_of_kept kept.now) 10 result }
 {
     refuse(first_broken_posting(alloc, kept, geometry, log, blocks, meter)?)
 }
@@ -122,11 +122,11 @@ pub(crate) fn check_pointers(
     blocks: &[ListBlock],
     nodes: &[LevelNode],
 ) -> Result<(), Refusal>
-    requires log { IsLog geometry.now (image_of kept.now) log.now }
-    requires blocks { AreListBlocks geometry.now (image_of kept.now) blocks.now }
-    requires nodes { AreNodes geometry.now (image_of kept.now) nodes.now }
-    requires met { AreMetBelow geometry.now (image_of kept.now) 10 }
-    ensures { Passes geometry.now (image_of kept.now) 11 result }
+    requires log { IsLog geometry.now (image_of_kept kept.now) log.now }
+    requires blocks { AreListBlocks geometry.now (image_of_kept kept.now) blocks.now }
+    requires nodes { AreNodes geometry.now (image_of_kept kept.now) nodes.now }
+    requires met { AreMetBelow geometry.now (image_of_kept kept.now) 10 }
+    ensures { Passes geometry.now (image_of_kept kept.now) 11 result }
 {
     refuse(first_broken_pointer(alloc, kept, geometry, log, blocks, nodes)?)
 }
@@ -138,12 +138,12 @@ pub(crate) fn check_buckets(
     log: &Log,
     nodes: &[LevelNode],
 ) -> Result<(), Refusal>
-    requires volume { IsVolume geometry.now.cells (image_of kept.now) geometry.now }
+    requires volume { IsVolume geometry.now.cells (image_of_kept kept.now) geometry.now }
     requires count { count_of kept.now ≡ geometry.now.cells }
-    requires log { IsLog geometry.now (image_of kept.now) log.now }
-    requires nodes { AreNodes geometry.now (image_of kept.now) nodes.now }
-    requires met { AreMetBelow geometry.now (image_of kept.now) 11 }
-    ensures { Passes geometry.now (image_of kept.now) 12 result }
+    requires log { IsLog geometry.now (image_of_kept kept.now) log.now }
+    requires nodes { AreNodes geometry.now (image_of_kept kept.now) nodes.now }
+    requires met { AreMetBelow geometry.now (image_of_kept kept.now) 11 }
+    ensures { Passes geometry.now (image_of_kept kept.now) 12 result }
 {
     refuse(first_broken_bucket(kept, geometry, log, nodes))
 }
@@ -157,11 +157,11 @@ pub(crate) fn check_children(
     blocks: &[ListBlock],
     nodes: &[LevelNode],
 ) -> Result<(), Refusal>
-    requires log { IsLog geometry.now (image_of kept.now) log.now }
-    requires blocks { AreListBlocks geometry.now (image_of kept.now) blocks.now }
-    requires nodes { AreNodes geometry.now (image_of kept.now) nodes.now }
-    requires met { AreMetBelow geometry.now (image_of kept.now) 12 }
-    ensures { Passes geometry.now (image_of kept.now) 13 result }
+    requires log { IsLog geometry.now (image_of_kept kept.now) log.now }
+    requires blocks { AreListBlocks geometry.now (image_of_kept kept.now) blocks.now }
+    requires nodes { AreNodes geometry.now (image_of_kept kept.now) nodes.now }
+    requires met { AreMetBelow geometry.now (image_of_kept kept.now) 12 }
+    ensures { Passes geometry.now (image_of_kept kept.now) 13 result }
 {
     refuse(first_broken_child(alloc, kept, geometry, log, nodes, blocks)?)
 }
@@ -174,21 +174,21 @@ pub(crate) fn check_trails<M: Meter>(
     log: &Log,
     meter: &mut M,
 ) -> Result<(), Refusal>
-    requires volume { IsVolume geometry.now.cells (image_of kept.now) geometry.now }
-    requires log { IsLog geometry.now (image_of kept.now) log.now }
-    requires met { AreMetBelow geometry.now (image_of kept.now) 13 }
-    ensures { Passes geometry.now (image_of kept.now) 14 result }
+    requires volume { IsVolume geometry.now.cells (image_of_kept kept.now) geometry.now }
+    requires log { IsLog geometry.now (image_of_kept kept.now) log.now }
+    requires met { AreMetBelow geometry.now (image_of_kept kept.now) 13 }
+    ensures { Passes geometry.now (image_of_kept kept.now) 14 result }
 {
     refuse(first_broken_trail(alloc, kept, geometry, log, meter)?)
 }
 
 /// Rule 14: each document has its path, and no two have one identifier.
 pub(crate) fn check_paths(kept: &KeptCells, geometry: &Geometry, log: &Log) -> Result<(), Refusal>
-    requires volume { IsVolume geometry.now.cells (image_of kept.now) geometry.now }
+    requires volume { IsVolume geometry.now.cells (image_of_kept kept.now) geometry.now }
     requires count { count_of kept.now ≡ geometry.now.cells }
-    requires log { IsLog geometry.now (image_of kept.now) log.now }
-    requires met { AreMetBelow geometry.now (image_of kept.now) 14 }
-    ensures { Passes geometry.now (image_of kept.now) 15 result }
+    requires log { IsLog geometry.now (image_of_kept kept.now) log.now }
+    requires met { AreMetBelow geometry.now (image_of_kept kept.now) 14 }
+    ensures { Passes geometry.now (image_of_kept kept.now) 15 result }
 {
     refuse(first_broken_path(kept, geometry, log))
 }
@@ -200,9 +200,9 @@ pub(crate) fn check_tilings(
     geometry: &Geometry,
     log: &Log,
 ) -> Result<(), Refusal>
-    requires log { IsLog geometry.now (image_of kept.now) log.now }
-    requires met { AreMetBelow geometry.now (image_of kept.now) 15 }
-    ensures { Passes geometry.now (image_of kept.now) 16 result }
+    requires log { IsLog geometry.now (image_of_kept kept.now) log.now }
+    requires met { AreMetBelow geometry.now (image_of_kept kept.now) 15 }
+    ensures { Passes geometry.now (image_of_kept kept.now) 16 result }
 {
     refuse(first_broken_tiling(alloc, kept, geometry, log)?)
 }

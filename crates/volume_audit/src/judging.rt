@@ -1,7 +1,7 @@
 //! The rules, one after another.
 ghost use Rattle.std.specs.Prelude.{◌≡◌};
 ghost use Rattle.volume_meaning.specs.Volumes.{IsVolume};
-ghost use Rattle.log_audit.specs.Kept.{image_of, count_of};
+ghost use Rattle.log_audit.specs.Kept.{image_of_kept, count_of};
 ghost use Rattle.list_audit.specs.Blocks.{AreListBlocks};
 ghost use Rattle.log_audit.specs.Findings.{AreMetBelow};
 ghost use Rattle.log_audit.specs.Logs.{IsLog};
@@ -27,9 +27,9 @@ pub(crate) fn judge<M: Meter>(
     geometry: &Geometry,
     meter: &mut M,
 ) -> Result<AuditReport, Refusal>
-    requires volume { IsVolume geometry.now.cells (image_of kept.now) geometry.now }
+    requires volume { IsVolume geometry.now.cells (image_of_kept kept.now) geometry.now }
     requires count { count_of kept.now ≡ geometry.now.cells }
-    ensures { Judges geometry.now (image_of kept.now) result }
+    ensures { Judges geometry.now (image_of_kept kept.now) result }
 {
     let log = check_log(alloc, kept, geometry)?;
     check_slots(alloc, kept, geometry, &log)?;
@@ -47,10 +47,10 @@ fn check_slots(
     geometry: &Geometry,
     log: &Log,
 ) -> Result<(), Refusal>
-    requires log { IsLog geometry.now (image_of kept.now) log.now }
+    requires log { IsLog geometry.now (image_of_kept kept.now) log.now }
     requires count { count_of kept.now ≡ geometry.now.cells }
-    requires met { AreMetBelow geometry.now (image_of kept.now) 4 }
-    ensures { Passes geometry.now (image_of kept.now) 8 result }
+    requires met { AreMetBelow geometry.now (image_of_kept kept.now) 4 }
+    ensures { Passes geometry.now (image_of_kept kept.now) 8 result }
 {
     check_documents(kept, geometry, log)?;
     check_journals(kept, geometry, log)?;
@@ -68,13 +68,13 @@ fn check_index<M: Meter>(
     nodes: &[LevelNode],
     meter: &mut M,
 ) -> Result<(), Refusal>
-    requires volume { IsVolume geometry.now.cells (image_of kept.now) geometry.now }
-    requires log { IsLog geometry.now (image_of kept.now) log.now }
+    requires volume { IsVolume geometry.now.cells (image_of_kept kept.now) geometry.now }
+    requires log { IsLog geometry.now (image_of_kept kept.now) log.now }
     requires count { count_of kept.now ≡ geometry.now.cells }
-    requires blocks { AreListBlocks geometry.now (image_of kept.now) blocks.now }
-    requires nodes { AreNodes geometry.now (image_of kept.now) nodes.now }
-    requires met { AreMetBelow geometry.now (image_of kept.now) 8 }
-    ensures { Passes geometry.now (image_of kept.now) 13 result }
+    requires blocks { AreListBlocks geometry.now (image_of_kept kept.now) blocks.now }
+    requires nodes { AreNodes geometry.now (image_of_kept kept.now) nodes.now }
+    requires met { AreMetBelow geometry.now (image_of_kept kept.now) 8 }
+    ensures { Passes geometry.now (image_of_kept kept.now) 13 result }
 {
     check_entries(kept, geometry, blocks)?;
     check_postings(alloc, kept, geometry, log, blocks, meter)?;
@@ -91,11 +91,11 @@ fn check_reach<M: Meter>(
     log: &Log,
     meter: &mut M,
 ) -> Result<(), Refusal>
-    requires volume { IsVolume geometry.now.cells (image_of kept.now) geometry.now }
-    requires log { IsLog geometry.now (image_of kept.now) log.now }
+    requires volume { IsVolume geometry.now.cells (image_of_kept kept.now) geometry.now }
+    requires log { IsLog geometry.now (image_of_kept kept.now) log.now }
     requires count { count_of kept.now ≡ geometry.now.cells }
-    requires met { AreMetBelow geometry.now (image_of kept.now) 13 }
-    ensures { Passes geometry.now (image_of kept.now) 16 result }
+    requires met { AreMetBelow geometry.now (image_of_kept kept.now) 13 }
+    ensures { Passes geometry.now (image_of_kept kept.now) 16 result }
 {
     check_trails(alloc, kept, geometry, log, meter)?;
     check_paths(kept, geometry, log)?;

@@ -1,7 +1,7 @@
 //! How many slots and cells there are.
 ghost use Rattle.std.specs.Prelude.{◌≡◌, ◌<◌, ◌↔◌, IsTrue};
 ghost use Rattle.volume_meaning.specs.Slots.{IsDoneSlot, IsAbandonedSlot};
-ghost use Rattle.log_audit.specs.Kept.{image_of, count_of};
+ghost use Rattle.log_audit.specs.Kept.{image_of_kept, count_of};
 ghost use Rattle.log_audit.specs.Logs.{IsLog};
 ghost use Rattle.volume_audit.specs.Counts.{Counts};
 ghost use Rattle.volume_audit.specs.Reports.{IsReport};
@@ -22,9 +22,9 @@ pub struct AuditReport {
 
 /// The numbers of a volume whose cells are kept.
 pub(crate) fn report_of(kept: &KeptCells, geometry: &Geometry, log: &Log) -> AuditReport
-    requires log { IsLog geometry.now (image_of kept.now) log.now }
+    requires log { IsLog geometry.now (image_of_kept kept.now) log.now }
     requires count { count_of kept.now ≡ geometry.now.cells }
-    ensures { IsReport geometry.now (image_of kept.now) result }
+    ensures { IsReport geometry.now (image_of_kept kept.now) result }
 {
     AuditReport {
         done: count_done(kept, geometry, log),
@@ -35,8 +35,8 @@ pub(crate) fn report_of(kept: &KeptCells, geometry: &Geometry, log: &Log) -> Aud
 
 /// How many slots are done.
 fn count_done(_kept: &KeptCells, geometry: &Geometry, log: &Log) -> u32
-    requires { IsLog geometry.now (image_of _kept.now) log.now }
-    ensures { Counts (IsDoneSlot geometry.now (image_of _kept.now)) geometry.now.slots result }
+    requires { IsLog geometry.now (image_of_kept _kept.now) log.now }
+    ensures { Counts (IsDoneSlot geometry.now (image_of_kept _kept.now)) geometry.now.slots result }
 {
     let mut done = 0;
     for slot in 0..geometry.slots() {
@@ -49,8 +49,8 @@ fn count_done(_kept: &KeptCells, geometry: &Geometry, log: &Log) -> u32
 
 /// How many slots are abandoned.
 fn count_abandoned(_kept: &KeptCells, geometry: &Geometry, log: &Log) -> u32
-    requires { IsLog geometry.now (image_of _kept.now) log.now }
-    ensures { Counts (IsAbandonedSlot geometry.now (image_of _kept.now) (image_of _kept.now)) geometry.now.slots result }
+    requires { IsLog geometry.now (image_of_kept _kept.now) log.now }
+    ensures { Counts (IsAbandonedSlot geometry.now (image_of_kept _kept.now) (image_of_kept _kept.now)) geometry.now.slots result }
 {
     let mut abandoned = 0;
     for slot in 0..geometry.slots() {
@@ -64,8 +64,8 @@ fn count_abandoned(_kept: &KeptCells, geometry: &Geometry, log: &Log) -> u32
 /// Whether a slot is done.
 fn is_done(_kept: &KeptCells, _geometry: &Geometry, log: &Log, slot: u32) -> bool
     requires inside { slot < _geometry.now.slots }
-    requires log { IsLog _geometry.now (image_of _kept.now) log.now }
-    ensures { IsTrue result ↔ IsDoneSlot _geometry.now (image_of _kept.now) slot }
+    requires log { IsLog _geometry.now (image_of_kept _kept.now) log.now }
+    ensures { IsTrue result ↔ IsDoneSlot _geometry.now (image_of_kept _kept.now) slot }
 {
     let Some(ended) = log.at(slot) else {
         return false;
@@ -79,8 +79,8 @@ fn is_done(_kept: &KeptCells, _geometry: &Geometry, log: &Log, slot: u32) -> boo
 /// Whether a slot is abandoned.
 fn is_abandoned(_kept: &KeptCells, _geometry: &Geometry, log: &Log, slot: u32) -> bool
     requires inside { slot < _geometry.now.slots }
-    requires log { IsLog _geometry.now (image_of _kept.now) log.now }
-    ensures { IsTrue result ↔ IsAbandonedSlot _geometry.now (image_of _kept.now) (image_of _kept.now) slot }
+    requires log { IsLog _geometry.now (image_of_kept _kept.now) log.now }
+    ensures { IsTrue result ↔ IsAbandonedSlot _geometry.now (image_of_kept _kept.now) (image_of_kept _kept.now) slot }
 {
     let Some(ended) = log.at(slot) else {
         return false;

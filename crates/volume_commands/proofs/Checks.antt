@@ -13,7 +13,7 @@ use Rattle.worm_device.proofs.Counting.{rose_or_still}
 use Rattle.worm_device.proofs.Elapsing.{called_self}
 use Rattle.command_laws.proofs.Results.{one_refusal}
 use Rattle.receipt_text.specs.Form.{IsReceiptOn, refusal_of_receipt, text_of_receipt}
-use Rattle.receipt_text.specs.Reading.{ReadEnds}
+use Rattle.receipt_text.specs.Reading.{ReadReceiptEnds}
 use Rattle.receipt_text.specs.declared.receipt.Receipt.{Receipt}
 use Rattle.receipt_text.specs.declared.receipt.ReceiptFault.{ReceiptFault}
 use Rattle.receipt_text.specs.declared.receipt.ReceiptFault.TheVariants as receipt_faults
@@ -91,7 +91,7 @@ module _ (old new : Ports) where
 
 -- a receipt that was read from what was taken is checked
 pub checked_as_read : (old new : Ports) (result : Result Unit Refusal) (text : List ℕ) (cells : ℕ) (r : Receipt)
-    (answer : Result Checked CheckRefusal) → cells ≡ old.device.cells → ReadEnds cells text (Ok r)
+    (answer : Result Checked CheckRefusal) → cells ≡ old.device.cells → ReadReceiptEnds cells text (Ok r)
     → AreBytesUpTo MAX_RECEIPT_BYTES text → Gives old.source.left new.source.left text → IsAtEnd new.source.left
     → ChecksReceipt r old.device new.device answer → TellsFromMemory (kept_line r) (answer_of answer) old new result
     → DoesCheck old new result
@@ -107,7 +107,7 @@ module _ (r : Receipt) (body : List ℕ) (old new : Ports) (ready : IsReadyToChe
 
   -- a text that spells a receipt is read
   read_whole : (given : List ℕ) (fault : ReceiptFault) → given ≡ text_of_receipt r
-      → ReadEnds old.device.cells given (Err fault) → IsOkOrNoMemory (Err (refusal_of_receipt fault))
+      → ReadReceiptEnds old.device.cells given (Err fault) → IsOkOrNoMemory (Err (refusal_of_receipt fault))
   read_whole given receipt_faults.NoMemory same reads = tt
   read_whole given (receipt_faults.BadReceipt i) same reads = absurd (reads.none r ready.is_receipt same)
 

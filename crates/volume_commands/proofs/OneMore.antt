@@ -23,7 +23,7 @@ use Rattle.crash_laws.proofs.LeftByIngest.{nothing_done}
 use Rattle.crash_laws.proofs.Steady.{comes_steady}
 use Rattle.crash_laws.proofs.WellPlanned as planned
 use Rattle.command_laws.specs.Begins.{BeginsSteady}
-use Rattle.volume_commands.specs.Ingesting.{DoesIngest, HasRefused, HasStored, acknowledgement, misnamed, untaken, taken}
+use Rattle.volume_commands.specs.Ingesting.{DoesIngest, HasRefused, WasStored, acknowledgement, misnamed, untaken, taken}
 use Rattle.volume_commands.specs.Ports.{Ports, Tells}
 use Rattle.volume_commands.specs.Steadiness.{AddsOne, IsExactlyTooMany}
 use Rattle.volume_commands.specs.Taking.{refusal_of_body_fault}
@@ -74,10 +74,10 @@ module _ (id : List ℕ) (stamp : Option ℕ) (old new : Ports) (device : IsDevi
     (begins : BeginsSteady old.device new.device) where
   -- no body is taken
   not_taken : (given : List ℕ) (fault : BodyFault) (result : Result Unit Refusal)
-      → result ≡ Err (refusal_of_body_fault fault) → HasStored result → ⊥
-  not_taken given faults.TooLong result is has = subst HasStored is has
-  not_taken given faults.SourceFailed result is has = subst HasStored is has
-  not_taken given faults.NoMemory result is has = subst HasStored is has
+      → result ≡ Err (refusal_of_body_fault fault) → WasStored result → ⊥
+  not_taken given faults.TooLong result is has = subst WasStored is has
+  not_taken given faults.SourceFailed result is has = subst WasStored is has
+  not_taken given faults.NoMemory result is has = subst WasStored is has
 
   not_named : (fault : BodyFault) (result : Result Unit Refusal) (e : Evidence)
       → result ≡ Err (refusal_of_body_fault fault) → result ≡ Err (refusals.Tampered e) → ⊥
@@ -99,7 +99,7 @@ module _ (id : List ℕ) (stamp : Option ℕ) (old new : Ports) (device : IsDevi
     -- the document is stored where the engine has stored it
     stored_adds : (answer : Result ℕ Refusal) (result : Result Unit Refusal)
         → Ingests id stamp body old.device new.device answer
-        → Tells acknowledgement answer old new result → HasStored result
+        → Tells acknowledgement answer old new result → WasStored result
         → (n : ℕ) × HasOneMore id stamp body n old.device new.device × Tells acknowledgement (Ok n) old new result
     stored_adds (Ok n) result ingests tells has = (
       n,
@@ -147,7 +147,7 @@ module _ (id : List ℕ) (stamp : Option ℕ) (old new : Ports) (device : IsDevi
     gives = subst (λ (p : Ports). Gives old.source.left p.source.left []) (sym same) (gives_nothing old.source.left);
     stays = nothing_done id stamp [] old.device new.device (ap (λ (p : Ports). p.device) same) begins.steady;
     no_alarm = λ e named. other_refusal result refusals.BadIdentifier (refusals.Tampered e) (λ s. absurd cc) is named;
-    adds = λ has. absurd (subst HasStored is has);
+    adds = λ has. absurd (subst WasStored is has);
     keeps = λ has documents held. held_unmoved (ap (λ (p : Ports). p.device) same) documents held;
     needs = λ need free full. absurd
         (other_refusal result refusals.BadIdentifier (refusals.Full need free) (λ s. absurd cc) is full);

@@ -16,7 +16,7 @@ use Rattle.worm_device.specs.State.{DeviceState, IsDevice}
 use Rattle.worm_device.proofs.Counting.{rose_or_still}
 use Rattle.worm_device.proofs.Elapsing.{called_self}
 use Rattle.recovery_engine.specs.Settling.{SettlesFirst}
-use Rattle.time_index.specs.Asking.{AsksStamps, IsWithoutStamps, StampsEnd}
+use Rattle.time_index.specs.Asking.{AsksStamps, IsWithoutStamps, AskStampsEnd}
 use Rattle.time_index.specs.Spans.{FindsBetween, FindsSpan, SearchesByTime, SearchesTimes, SpanEnds, searched, unstamped}
 use Rattle.time_index.specs.declared.found.TimeMatch.{TimeMatch}
 use Rattle.command_laws.specs.Begins.{BeginsSteady}
@@ -33,8 +33,8 @@ use Rattle.volume_commands.specs.Spanning.{DoesBetween, IsReadyBetween, between_
 use Rattle.volume_commands.specs.Steadiness.{AreTimeMatchesOf, FindsHeldBetween}
 
 module _ (from to : ℕ) (old new : Ports) where
-  stamps_used : (refusal : Refusal) → StampsEnd old.device new.device (Err refusal) → refusal ≡ refusals.Usage → ⊥
-  stamps_used refusal ends is = subst (λ (r : Refusal). StampsEnd old.device new.device (Err r)) is ends
+  stamps_used : (refusal : Refusal) → AskStampsEnd old.device new.device (Err refusal) → refusal ≡ refusals.Usage → ⊥
+  stamps_used refusal ends is = subst (λ (r : Refusal). AskStampsEnd old.device new.device (Err r)) is ends
 
   span_used : (mid : DeviceState) (refusal : Refusal) → SpanEnds from to mid new.device (Err refusal)
       → refusal ≡ refusals.Usage → ⊥
@@ -63,7 +63,7 @@ module _ (from to : ℕ) (g : Layout) (old new : Ports) (ready : IsReadyBetween 
   stamps_told : (refusal : Refusal) → AsksStamps old.device new.device (Err refusal) → ⊥
   stamps_told refusal asks = by_refusal refusal asks.ends
     where
-      by_refusal : (r : Refusal) → StampsEnd old.device new.device (Err r) → ⊥
+      by_refusal : (r : Refusal) → AskStampsEnd old.device new.device (Err r) → ⊥
       by_refusal refusals.NoStamps ends = no_stamps (ends.1 ready.log.tells) asks.called
       by_refusal refusals.DeviceFault ends = settles_whole (settling_steady ready.log) asks.called refusals.DeviceFault
           (λ e same. absurd cc) ends
@@ -138,7 +138,7 @@ module _ (from to : ℕ) (old new : Ports) (device : IsDevice old.device) (devic
   alarm : (answer : Result (Vec TimeMatch) Refusal) (e : Evidence) → answer ≡ Err (refusals.Tampered e)
       → SearchesByTime from to old.device new.device answer → ⊥
   alarm answer e named (unstamped refusal asks is) =
-      subst (λ (r : Refusal). StampsEnd old.device new.device (Err r))
+      subst (λ (r : Refusal). AskStampsEnd old.device new.device (Err r))
       (one_refusal answer refusal (refusals.Tampered e) is named) asks.ends
   alarm answer e named (searched mid asks searches) =
       let first = begins_mid old.device mid new.device device asks.called searches.called asks.quiet begins in

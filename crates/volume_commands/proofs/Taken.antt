@@ -6,13 +6,13 @@ use Rattle.volume_meaning.specs.declared.limits.TheConstants.{MAX_BODY_BYTES}
 use Rattle.worm_device.specs.Counts.{Rose}
 use Rattle.volume_commands.specs.declared.body.BodyFault.{BodyFault}
 use Rattle.volume_commands.specs.declared.body.BodyFault.TheVariants.{TooLong, SourceFailed, NoMemory}
-use Rattle.volume_commands.specs.Taking.{AreBytesUpTo, BodyFails, PieceEnds, TakesPiece}
+use Rattle.volume_commands.specs.Taking.{AreBytesUpTo, BodyFails, TakePieceEnds, TakesPiece}
 use Rattle.volume_commands.proofs.Pieces.{gives_then}
 
 module _ (limit : ℕ) (body body' : List ℕ) (first old new : SourceState) (so_far : Gives first.left old.left body) (room : ℕ)
     (within : length body + room ≤ limit + 1) where
   -- the last piece could not be taken
-  pub piece_failed : (fault : BodyFault) → PieceEnds room body body' old new (Err fault) → AreBytesUpTo limit body
+  pub piece_failed : (fault : BodyFault) → TakePieceEnds room body body' old new (Err fault) → AreBytesUpTo limit body
       → old.faults ≡ first.faults
       → (given : List ℕ) × Gives first.left new.left given × BodyFails limit given first new fault
   piece_failed TooLong ends is same = absurd ends

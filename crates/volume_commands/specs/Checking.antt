@@ -7,7 +7,7 @@ use Rattle.host_ports.specs.Sources.{Gives, IsAtEnd}
 use Rattle.worm_device.specs.Counts.{IsStill}
 use Rattle.receipt_text.specs.Form.{IsReceiptOn, refusal_of_receipt, text_of_receipt}
 use Rattle.receipt_text.specs.Listed.{listed_image}
-use Rattle.receipt_text.specs.Reading.{ReadEnds}
+use Rattle.receipt_text.specs.Reading.{ReadReceiptEnds}
 use Rattle.receipt_text.specs.declared.receipt.Receipt.{Receipt}
 use Rattle.receipt_text.specs.declared.receipt.ReceiptFault.{ReceiptFault}
 use Rattle.receipt_check.specs.Checks.{ChecksReceipt, ShowsDocument, refusal_of_check}
@@ -38,7 +38,7 @@ pub data DoesCheck (old new : Ports) (result : Result Unit Refusal) : Type 0 whe
   -- the text is no receipt of such a device, or no memory was to be had to read it
   unread : (text : List ℕ) (fault : ReceiptFault) → AreBytesUpTo MAX_RECEIPT_BYTES text
       → Gives old.source.left new.source.left text → IsAtEnd new.source.left
-      → ReadEnds old.device.cells text (Err fault) → result ≡ Err (refusal_of_receipt fault)
+      → ReadReceiptEnds old.device.cells text (Err fault) → result ≡ Err (refusal_of_receipt fault)
       → new.device ≡ old.device → KeepsSink old new → DoesCheck old new result
   -- The text that the source gives up to its end is the receipt's. It is checked, as the engine says, and its answer is
   -- told. The line is made before its first byte goes out.

@@ -36,10 +36,10 @@ pub data DoesIngest (id : List ℕ) (stamp : Option ℕ) (old new : Ports) (resu
       → DoesIngest id stamp old new result
 
 -- the document is stored: it was acknowledged, or the sink failed then
-abbrev pub HasStored : Result Unit Refusal → Type 0
-HasStored (Ok _) = ⊤
-HasStored (Err SinkFault) = ⊤
-HasStored (Err refusal) = ⊥
+abbrev pub WasStored : Result Unit Refusal → Type 0
+WasStored (Ok _) = ⊤
+WasStored (Err SinkFault) = ⊤
+WasStored (Err refusal) = ⊥
 
 -- it is refused, with no fault of the device
 abbrev pub HasRefused : Result Unit Refusal → Type 0

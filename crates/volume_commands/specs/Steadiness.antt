@@ -21,7 +21,7 @@ use Rattle.receipt_text.specs.declared.receipt.Receipt.{Receipt}
 use Rattle.receipt_check.specs.Checks.{ShowsDocument}
 use Rattle.command_laws.specs.Telling.{AreMatchesOf, IsFormatted}
 use Rattle.command_line.specs.Requests.{Request, ToAudit, ToCheck, ToExercise, ToFind, ToFindBetween, ToFormat, ToIngest, ToLookUp, ToMakeReceipt, ToRecover, ToReplay}
-use Rattle.volume_commands.specs.Ingesting.{HasRefused, HasStored, acknowledgement}
+use Rattle.volume_commands.specs.Ingesting.{HasRefused, WasStored, acknowledgement}
 use Rattle.volume_commands.specs.Finding.{AreTermsOf, find_text}
 use Rattle.volume_commands.specs.Ports.{Ports, PutsOut, Tells}
 use Rattle.volume_commands.specs.Ruling.{HasRule}
@@ -121,7 +121,7 @@ pub record AddsOne (id : List ℕ) (stamp : Option ℕ) (old new : Ports) (resul
   pub gives : Gives old.source.left new.source.left body
   pub stays : StaysSteadyBy id stamp body old.device new.device
   pub no_alarm : (e : Evidence) → result ≡ Err (Tampered e) → ⊥
-  pub adds : HasStored result
+  pub adds : WasStored result
       → (n : ℕ) × HasOneMore id stamp body n old.device new.device × Tells acknowledgement (Ok n) old new result
   pub keeps : HasRefused result → (documents : List Document)
       → Held old.device.cells old.device.image documents → Held new.device.cells new.device.image documents

@@ -32,11 +32,11 @@ pub record LosesPiece (room : ℕ) (old new : SourceState) : Type 0 where
   pub gives : Gives old.left new.left piece
 
 -- how taking a piece may end
-abbrev pub PieceEnds : ℕ → List ℕ → List ℕ → SourceState → SourceState → Result ℕ BodyFault → Type 0
-PieceEnds room body body' old new (Ok n) = TakesPiece room body body' old new n
-PieceEnds room body body' old new (Err SourceFailed) = (new.left ≡ old.left) × Rose old.faults new.faults
-PieceEnds room body body' old new (Err NoMemory) = LosesPiece room old new
-PieceEnds room body body' old new (Err TooLong) = ⊥
+abbrev pub TakePieceEnds : ℕ → List ℕ → List ℕ → SourceState → SourceState → Result ℕ BodyFault → Type 0
+TakePieceEnds room body body' old new (Ok n) = TakesPiece room body body' old new n
+TakePieceEnds room body body' old new (Err SourceFailed) = (new.left ≡ old.left) × Rose old.faults new.faults
+TakePieceEnds room body body' old new (Err NoMemory) = LosesPiece room old new
+TakePieceEnds room body body' old new (Err TooLong) = ⊥
 
 -- at most so many bytes
 pub record AreBytesUpTo (limit : ℕ) (body : List ℕ) : Type 0 where

@@ -1,7 +1,7 @@
 //! A body, or another text, taken from a source to its end.
 ghost use Rattle.std.specs.Prelude.{◌≡◌, ◌≤◌, ℕ, List, length, IfOk, IfErr};
 ghost use Rattle.host_ports.specs.Sources.{Gives, IsAtEnd};
-ghost use Rattle.volume_commands.specs.Taking.{AreBytesUpTo, BodyFails, PieceEnds, refusal_of_body_fault};
+ghost use Rattle.volume_commands.specs.Taking.{AreBytesUpTo, BodyFails, TakePieceEnds, refusal_of_body_fault};
 ghost use Rattle.volume_commands.specs.declared.body.BodyFault.TheVariants as faults;
 
 use cell_types::Refusal;
@@ -54,7 +54,7 @@ impl From<BodyFault> for Refusal {
 }
 
 /// Takes what the source gives up to its end. Where that is more than so many bytes, it stops at the first byte too many.
-pub fn take_body<S: Source>(
+pub fn take_input<S: Source>(
     alloc: Global,
     source: &mut S,
     limit: usize,
@@ -87,7 +87,7 @@ fn take_piece<S: Source>(
     piece: &mut [u8],
     body: &mut Vec<u8>,
 ) -> Result<usize, BodyFault>
-    ensures { PieceEnds (length piece.old) body.old.items body.new.items
+    ensures { TakePieceEnds (length piece.old) body.old.items body.new.items
         (S.state source.old) (S.state source.new) result }
 {
     let taken = source.take(piece)?;

@@ -3,7 +3,7 @@ ghost use Rattle.std.specs.Prelude.{◌≡◌, IfOk};
 ghost use Rattle.volume_commands.specs.Checking.{DoesCheck, kept_line};
 ghost use Rattle.volume_commands.specs.Ports.{ports_of};
 
-use crate::body::{MAX_RECEIPT_BYTES, take_body};
+use crate::body::{MAX_RECEIPT_BYTES, take_input};
 use crate::outcome::Outcome;
 use command_line::{push_document_line, put_text};
 use host_ports::{Sink, Source};
@@ -22,7 +22,7 @@ pub fn check_source<D: Device, S: Source, K: Sink>(
     ensures { DoesCheck (ports_of (D.state device.old) (S.state source.old) (K.state sink.old))
         (ports_of (D.state device.new) (S.state source.new) (K.state sink.new)) result }
 {
-    let text = take_body(alloc, source, MAX_RECEIPT_BYTES)?;
+    let text = take_input(alloc, source, MAX_RECEIPT_BYTES)?;
     let receipt = read_receipt(alloc, &text, device.cells())?;
     let checked = check_receipt(alloc, device, &receipt)?;
     let line = line_of(alloc, &receipt, checked)?;

@@ -2,7 +2,7 @@
 ghost use Rattle.volume_commands.specs.Ingesting.{DoesIngest};
 ghost use Rattle.volume_commands.specs.Ports.{ports_of};
 
-use crate::body::take_body;
+use crate::body::take_input;
 use crate::outcome::Outcome;
 use cell_types::Refusal;
 use command_line::put_slot_line;
@@ -28,7 +28,7 @@ pub fn ingest_body<D: Device, S: Source, K: Sink>(
     if !is_identifier(id) {
         return Err(Refusal::BadIdentifier);
     }
-    let body = take_body(alloc, source, MAX_BODY_BYTES)?;
+    let body = take_input(alloc, source, MAX_BODY_BYTES)?;
     let slot = ingest_engine::ingest(alloc, device, id, stamp, &body)?;
     // No memory is taken any more: the document is sure.
     put_slot_line(sink, "acknowledged ", slot, "\n")?;

@@ -44,13 +44,13 @@ mod recover;
 
 pub use audit::audit_volume;
 pub use between::find_between;
-pub use body::{BodyFault, MAX_RECEIPT_BYTES, take_body};
+pub use body::{BodyFault, MAX_RECEIPT_BYTES, take_input};
 pub use check::check_source;
 pub use find::find_documents;
 pub use format::format_device;
 pub use ingest::ingest_body;
 pub use laws::receipts_are_ready;
-pub use lookup::look_up_document;
+pub use lookup::lookup_document;
 pub use outcome::Outcome;
 pub use receipt::put_receipt;
 pub use recover::recover_device;

@@ -10,7 +10,7 @@ use record_query::lookup_into;
 use worm_device::Device;
 
 /// Puts out the body of the document with this identifier. Takes no memory.
-pub fn look_up_document<D: Device, S: Source, K: Sink>(
+pub fn lookup_document<D: Device, S: Source, K: Sink>(
     id: &[u8],
     device: &mut D,
     source: &mut S,

@@ -32,8 +32,8 @@ use Rattle.crash_laws.proofs.LeftWhole.{sure_steady}
 use Rattle.crash_laws.specs.Steadiness.{HasOneMore, HoldsOneMore, IsLeftByIngest}
 use Rattle.crash_laws.proofs.AddsOne.{comes_more}
 use Rattle.crash_laws.proofs.Steady.{comes_steady}
-use Rattle.volume_copy.specs.Adding.{AddEnds, AddFails, AddsNext, CanBeRead, Completes, CopiedSoFar, GoesOn, IngestsOf, RestFails, WhereCopied}
-use Rattle.volume_copy.specs.Auditing.{IsWhole}
+use Rattle.volume_copy.specs.Adding.{AddDocumentEnds, AddFails, AddsNext, CanBeRead, Completes, CopiedSoFar, CopyGoesOn, IngestsOf, RestFails, WhereCopied}
+use Rattle.volume_copy.specs.Auditing.{IsWholeVolume}
 use Rattle.volume_copy.specs.Alone.{AreAlone}
 use Rattle.volume_copy.specs.Completing.{AreOfOneVersion, IsForRoom}
 use Rattle.volume_copy.specs.First.{HoldsFirst, StaysFirst, none}
@@ -76,7 +76,7 @@ can_on {s} {t} {volume} called can = record {
 
 -- a volume stays whole while it is only read
 pub whole_on : {s t : DeviceState} {done : List ℕ} → IsDevice t → IsOnlyRead s t
-    → IsStill s.foreign_writes t.foreign_writes → IsWhole s done → IsWhole t done
+    → IsStill s.foreign_writes t.foreign_writes → IsWholeVolume s done → IsWholeVolume t done
 whole_on {s} {t} {done} device read still whole =
     let same : t.image ≡ s.image = same_image (read.only still) in
     let sure : s.sure ≡ s.image = same_image whole.sure in
@@ -119,7 +119,7 @@ target_fails g n from from' to to' refusal ingests = ingests
 
 -- an ingest of the next document of the source, whatever it answers
 module _ (source : AuditedVolume) {s t u v : DeviceState} (device_u : IsDevice u) (device : IsDevice v) (alone : AreAlone s t u v)
-    (read : IsOnlyRead s t) (called : Called u v) (can : CanBeRead s source) (whole : IsWhole s source.done.items) (moved : List Moved)
+    (read : IsOnlyRead s t) (called : Called u v) (can : CanBeRead s source) (whole : IsWholeVolume s source.done.items) (moved : List Moved)
     (so : CopiedSoFar s u moved) (less : length moved < length source.done.items) (n : ℕ)
     (at_place : n ≡ slice_index source.done.items (length moved)) {result : Result ℕ Refusal}
     (ing : IngestsOf source.volume.geometry n t u v result) where
@@ -287,9 +287,9 @@ source_complete source {s} {t} read refusal fails moved alone whole so unfailed 
 
 -- one document more
 module _ (source : AuditedVolume) {s t u v : DeviceState} (device_u : IsDevice u) (device : IsDevice v) (alone : AreAlone s t u v)
-    (read : IsOnlyRead s t) (called : Called u v) (can : CanBeRead s source) (whole : IsWhole s source.done.items) (moved : List Moved)
+    (read : IsOnlyRead s t) (called : Called u v) (can : CanBeRead s source) (whole : IsWholeVolume s source.done.items) (moved : List Moved)
     (so : CopiedSoFar s u moved) (less : length moved < length source.done.items) (pair : Moved)
-    (ends : AddEnds source (length moved) s t u v (Ok pair)) where
+    (ends : AddDocumentEnds source (length moved) s t u v (Ok pair)) where
   abbrev ing : IngestsOf source.volume.geometry pair.old t u v (Ok pair.new)
   ing = ends.1
 
@@ -342,7 +342,7 @@ pub record RestSoFar (source : AuditedVolume) (from now to there : DeviceState) 
   pub to_sound : IsSoundThroughout to there
   pub to_first : WhereCopied source from now to there moved (StaysFirst now.cells now.image to there)
   pub count : length moved_now ≡ place
-  pub goes : GoesOn source from now to there moved moved_now
+  pub goes : CopyGoesOn source from now to there moved moved_now
 
 pub rest_none : (source : AuditedVolume) (from to : DeviceState) (moved : List Moved) (place : ℕ) → length moved ≡ place
     → RestSoFar source from from to to moved moved place
@@ -435,7 +435,7 @@ module _ {source : AuditedVolume} {from now new to there then : DeviceState} {mo
         adds.from_read adds.to_called (can_on so_far.from_read.called can)
         (whole_on device_now so_far.from_read before.from_alone whole) moved_now
         (so_far.goes before whole so) (omega (arith, so_far.count, less)) pair
-        (subst (λ (n : ℕ). AddEnds source n now new there then (Ok pair)) (sym so_far.count) adds.ends);
+        (subst (λ (n : ℕ). AddDocumentEnds source n now new there then (Ok pair)) (sym so_far.count) adds.ends);
   }
 
   pub rest_fails : (refusal : CopyRefusal) → AddsNext source place now new there then (Err refusal)

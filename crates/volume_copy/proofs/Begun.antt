@@ -30,9 +30,9 @@ use Rattle.command_laws.specs.Begins.{BeginsSteady}
 use Rattle.command_laws.specs.Telling.{IsFormatted, LeavesHeld}
 use Rattle.command_laws.proofs.Formatting.{format_makes}
 use Rattle.volume_copy.specs.Adding.{CanBeRead, CopiedSoFar}
-use Rattle.volume_copy.specs.Auditing.{AuditsSteady, HasAudited, IsWhole, by_reading}
-use Rattle.volume_copy.specs.Beginning.{BeginEnds, Begins, HaveNumbers, IsFree, StatesNone, StatesOther}
-use Rattle.volume_copy.specs.Comparing.{CompareEnds, ComparesAll}
+use Rattle.volume_copy.specs.Auditing.{AuditsSteady, HasAudited, IsWholeVolume, by_reading}
+use Rattle.volume_copy.specs.Beginning.{BeginEnds, BeginsCopy, HaveNumbers, IsCopyFree, StatesNone, StatesOther}
+use Rattle.volume_copy.specs.Comparing.{CompareVolumesEnds, ComparesAll}
 use Rattle.volume_copy.specs.Alone.{AreAlone}
 use Rattle.volume_copy.specs.Copies.{IsOfVersion, IsOtherVolume, RefusesTo, by_volume}
 use Rattle.volume_copy.specs.Completing.{EndsUnhindered, IsForRoom}
@@ -125,7 +125,7 @@ module _ (g : Layout) {old new : DeviceState} (size : g.cells ≡ old.cells) (de
 
     -- nothing was copied yet
     pub copied_none : {s : DeviceState} {source : AuditedVolume} → CanBeRead s source → IsTrue s.tells
-        → IsWhole s source.done.items → CopiedSoFar s new []
+        → IsWholeVolume s source.done.items → CopiedSoFar s new []
     copied_none {s} {source} can s_tells whole =
         let those = documents_exist s.cells s.image whole.settled in
         record {
@@ -155,7 +155,7 @@ pub begins_formatted : (slots lists version : ℕ) {source : AuditedVolume} {fro
     → moved.items ≡ [] → CanBeRead from source → version ≡ source.volume.geometry.version → IsDevice mid → IsDevice new
     → IsDevice to → Called to mid → IsHeldThroughout to mid
     → Formats (record { slots = slots; lists = lists; cells = mid.cells; version = version }) mid new (Ok tt)
-    → Begins slots lists source from from to new (Ok moved)
+    → BeginsCopy slots lists source from from to new (Ok moved)
 begins_formatted slots lists version {source} {from} {to} {mid} {new} moved none can version_is device device_new device_to called held formats =
     record {
       from_read = read_none from;
@@ -184,7 +184,7 @@ begins_formatted slots lists version {source} {from} {to} {mid} {new} moved none
 
 -- a target that cell 0 says to be blank is blank, where nothing hinders, and formatting it is refused for want of room alone
 pub format_free : (g : Layout) {source : AuditedVolume} {from to mid new : DeviceState} → IsOnlyRead to mid → mid.image 0 ≡ None
-    → (refusal : Refusal) → Formats g mid new (Err refusal) → IsFree source from from to new → IsForRoom (refusal_to refusal)
+    → (refusal : Refusal) → Formats g mid new (Err refusal) → IsCopyFree source from from to new → IsForRoom (refusal_to refusal)
 format_free g {source} {from} {to} {mid} {new} read first_blank refusal formats free = by refusal formats.ends
   where
     still_mid : IsStill mid.foreign_writes new.foreign_writes
@@ -213,7 +213,7 @@ format_free g {source} {from} {to} {mid} {new} read first_blank refusal formats 
 -- one whose cell 0 is written is a steady volume then, and auditing it is refused for want of memory alone
 pub audit_free : {source : AuditedVolume} {from to mid new : DeviceState} → IsDevice to → IsDevice mid → IsOnlyRead to mid
     → Called mid new → (cell : List ℕ) → (IsTrue to.tells → mid.image 0 ≡ Some cell) → (refusal : Refusal)
-    → AuditsSteady mid new (Err refusal) → IsFree source from from to new → IsForRoom (refusal_to refusal)
+    → AuditsSteady mid new (Err refusal) → IsCopyFree source from from to new → IsForRoom (refusal_to refusal)
 audit_free {source} {from} {to} {mid} {new} device device_mid read called cell stands refusal audits free = by free.first
   where
     still_to : IsStill to.foreign_writes mid.foreign_writes
@@ -270,12 +270,12 @@ module _ (slots lists version : ℕ) {source target : AuditedVolume} {from from'
       pub alone_behind : AreAlone from from' audited new
       alone_behind = alone_second (called_self from) read.called before to_read.called alone
 
-      pub whole_target : IsWhole audited target.done.items
+      pub whole_target : IsWholeVolume audited target.done.items
       whole_target = audit.whole (subst IsTrue (sym called.tells) alone.to_tells)
           (still_second called.foreign_writes audit.called.foreign_writes
           (still_first before.foreign_writes to_read.called.foreign_writes alone.to_alone))
 
-  module _ (read : IsOnlyRead from from') (to_read : IsOnlyRead audited new) (free : IsFree source from from' to new) where
+  module _ (read : IsOnlyRead from from') (to_read : IsOnlyRead audited new) (free : IsCopyFree source from from' to new) where
     source_settled : Settled from'.cells from'.image
     source_settled = subst (λ (k : ℕ). Settled k from'.image) (sym read.called.cells)
         (subst (λ (i : Image). Settled from.cells i) (sym (same_image (read.only free.alone.from_alone))) free.whole.settled)
@@ -308,7 +308,7 @@ module _ (slots lists version : ℕ) {source target : AuditedVolume} {from from'
         (subst (λ (k : ℕ). HoldsFirst from.cells from.image k new.image) (sym all.cells) there))
 
     compared_free : IsHeldThroughout to new → (r : Result (Vec Moved) CopyRefusal)
-        → CompareEnds source target from from' audited new r → EndsUnhindered r
+        → CompareVolumesEnds source target from from' audited new r → EndsUnhindered r
     compared_free held_all (Ok moved) ends = tt
     compared_free held_all (Err (copies.Differs old fresh)) ends =
         none_differs old fresh target_settled (first_still held_all)
@@ -319,19 +319,19 @@ module _ (slots lists version : ℕ) {source target : AuditedVolume} {from from'
     compared_free held_all (Err copies.NoMemory) ends = tt
     compared_free held_all (Err (copies.From refusals.NoMemory)) ends = absurd ends
     compared_free held_all (Err (copies.From refusal)) ends = absurd
-        (subst (λ (r : Refusal). CompareEnds source target from from' audited new (Err (copies.From r)))
+        (subst (λ (r : Refusal). CompareVolumesEnds source target from from' audited new (Err (copies.From r)))
         (reads_settled from from' free.alone.from_tells free.alone.from_alone free.unfailed.from_unfailed source_settled refusal
         ends) ends)
     compared_free held_all (Err (copies.To refusals.NoMemory)) ends = absurd ends
     compared_free held_all (Err (copies.To refusal)) ends = absurd
-        (subst (λ (r : Refusal). CompareEnds source target from from' audited new (Err (copies.To r)))
+        (subst (λ (r : Refusal). CompareVolumesEnds source target from from' audited new (Err (copies.To r)))
         (reads_settled audited new (alone_behind read to_read free.alone).to_tells (alone_behind read to_read free.alone).to_alone
         (still_second (before read to_read).faults to_read.called.faults free.unfailed.to_unfailed) target_settled refusal
         ends) ends)
     compared_free held_all (Err refusal) ends = absurd ends
 
   pub begins_compared : (result : Result (Vec Moved) CopyRefusal)
-      → ComparesAll source target from from' audited new result → Begins slots lists source from from' to new result
+      → ComparesAll source target from from' audited new result → BeginsCopy slots lists source from from' to new result
   begins_compared result compares = record {
     from_read = compares.from_read;
     to_called = called_then called (called_then audit.called compares.to_read.called);
@@ -345,7 +345,7 @@ module _ (slots lists version : ℕ) {source target : AuditedVolume} {from from'
           (held_then device_mid device_audited audit.called compares.to_read.called held
           (read_held device_audited device_new compares.to_read))
 
-      go : (r : Result (Vec Moved) CopyRefusal) → CompareEnds source target from from' audited new r
+      go : (r : Result (Vec Moved) CopyRefusal) → CompareVolumesEnds source target from from' audited new r
           → BeginEnds slots lists source from from' to new r
       go (Ok moved) ends = λ alone whole. (
         ends (alone_behind compares.from_read compares.to_read alone) whole

@@ -25,8 +25,8 @@ use Rattle.worm_device.proofs.Elapsing.{called_then}
 use Rattle.document_store.specs.Standing.{HoldsDocument}
 use Rattle.document_store.proofs.Holding.{held_stands}
 use Rattle.volume_copy.specs.Adding.{CanBeRead, CopiedSoFar}
-use Rattle.volume_copy.specs.Auditing.{IsWhole}
-use Rattle.volume_copy.specs.Comparing.{CompareEnds, ComparesAll, ComparesNext, FindsOther, FindsSame, IsSameCopy, NextEnds, ReadsBoth, WhereWhole}
+use Rattle.volume_copy.specs.Auditing.{IsWholeVolume}
+use Rattle.volume_copy.specs.Comparing.{CompareVolumesEnds, ComparesAll, ComparesNext, FindsOther, FindsSame, IsSameCopy, NextPairEnds, ReadsBoth, WhereWhole}
 use Rattle.volume_copy.specs.Alone.{AreAlone}
 use Rattle.volume_copy.specs.Copies.{HoldOthers, IsFirstPast, IsFirstToDiffer}
 use Rattle.volume_copy.specs.Pairs.{AgreeSoFar, ArePairs, SaysSame}
@@ -42,12 +42,12 @@ use Rattle.volume_copy.proofs.WholeVolumes.{reading_later}
 -- one side could not be read
 module _ (source target : AuditedVolume) (place : ℕ) (from from' to to' : DeviceState) where
   pub next_from : (refusal : Refusal) → ReadingFails from from' refusal
-      → NextEnds source target place from from' to to' (Err (refusal_from refusal))
+      → NextPairEnds source target place from from' to to' (Err (refusal_from refusal))
   next_from refusals.NoMemory fails = tt
   next_from refusal fails = fails
 
   pub next_to : (refusal : Refusal) → ReadingFails to to' refusal
-      → NextEnds source target place from from' to to' (Err (refusal_to refusal))
+      → NextPairEnds source target place from from' to to' (Err (refusal_to refusal))
   next_to refusals.NoMemory fails = tt
   next_to refusal fails = fails
 
@@ -106,8 +106,8 @@ module _ {s : DeviceState} {volume : AuditedVolume} (can : CanBeRead s volume) (
       )
 
 module _ {source target : AuditedVolume} {s u : DeviceState} (can_s : CanBeRead s source) (can_u : CanBeRead u target)
-    (tells_s : IsTrue s.tells) (tells_u : IsTrue u.tells) (whole_s : IsWhole s source.done.items)
-    (whole_u : IsWhole u target.done.items) (moved : List Moved) (a : AgreeSoFar s u moved)
+    (tells_s : IsTrue s.tells) (tells_u : IsTrue u.tells) (whole_s : IsWholeVolume s source.done.items)
+    (whole_u : IsWholeVolume u target.done.items) (moved : List Moved) (a : AgreeSoFar s u moved)
     (inside : length moved < length target.done.items) where
   abbrev g : Layout
   g = a.from_layout
@@ -246,7 +246,7 @@ hold_others {source} {target} {place} {s} {u} can_s can_u s_tells u_tells old ne
 
 -- nothing was compared yet
 agree_none : {source target : AuditedVolume} {s u : DeviceState} → CanBeRead s source → CanBeRead u target
-    → IsTrue s.tells → IsTrue u.tells → IsWhole s source.done.items → IsWhole u target.done.items → AgreeSoFar s u []
+    → IsTrue s.tells → IsTrue u.tells → IsWholeVolume s source.done.items → IsWholeVolume u target.done.items → AgreeSoFar s u []
 agree_none {source} {target} {s} {u} can_s can_u tells_s tells_u whole_s whole_u =
     let those = documents_exist s.cells s.image whole_s.settled in
     let these = documents_exist u.cells u.image whole_u.settled in
@@ -328,8 +328,8 @@ module _ {source target : AuditedVolume} {from now to there : DeviceState} {move
     all_to : IsOnlyRead to then
     all_to = read_then so_far.to_read next.to_read
 
-    module _ (alone : AreAlone from new to then) (whole_s : IsWhole from source.done.items)
-        (whole_u : IsWhole to target.done.items) where
+    module _ (alone : AreAlone from new to then) (whole_s : IsWholeVolume from source.done.items)
+        (whole_u : IsWholeVolume to target.done.items) where
       before : AreAlone from now to there
       before = alone_first so_far.from_read.called next.from_read.called so_far.to_read.called next.to_read.called alone
 
@@ -338,10 +338,10 @@ module _ {source target : AuditedVolume} {from now to there : DeviceState} {move
           (alone_second so_far.from_read.called next.from_read.called so_far.to_read.called next.to_read.called alone)
           (so_far.agree before whole_s whole_u)
 
-      pub whole_new : IsWhole new source.done.items
+      pub whole_new : IsWholeVolume new source.done.items
       whole_new = whole_on device_new all_from alone.from_alone whole_s
 
-      pub whole_then : IsWhole then target.done.items
+      pub whole_then : IsWholeVolume then target.done.items
       whole_then = whole_on device_then all_to alone.to_alone whole_u
 
       pub tells_new : IsTrue new.tells
@@ -398,8 +398,8 @@ compared_fails {source} {target} {from} {now} {to} {there} {new} {then} {moved} 
       ends = go refusal next.ends;
     }
   where
-    go : (r : CopyRefusal) → NextEnds source target place now new there then (Err r)
-        → CompareEnds source target from new to then (Err r)
+    go : (r : CopyRefusal) → NextPairEnds source target place now new there then (Err r)
+        → CompareVolumesEnds source target from new to then (Err r)
     go (copies.Differs old fresh) finds = (
       λ from_tells to_tells.
           let p = called_then so_far.from_read.called next.from_read.called in

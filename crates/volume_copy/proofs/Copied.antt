@@ -28,11 +28,11 @@ use Rattle.worm_device.proofs.Elapsing.{called_self, called_then}
 use Rattle.ingest_engine.specs.Ingesting.{document_in}
 use Rattle.crash_laws.specs.SettlingSteadiness.{IsSteady}
 use Rattle.volume_copy.specs.Adding.{AddsRest, CopiedSoFar, RestFails}
-use Rattle.volume_copy.specs.Auditing.{AuditsSteady, HasAudited, IsWhole, Refuses, by_reading}
-use Rattle.volume_copy.specs.Beginning.{BeginEnds, Begins}
+use Rattle.volume_copy.specs.Auditing.{AuditsSteady, HasAudited, IsWholeVolume, RefusesVolume, by_reading}
+use Rattle.volume_copy.specs.Beginning.{BeginEnds, BeginsCopy}
 use Rattle.volume_copy.specs.Alone.{AreAlone}
 use Rattle.volume_copy.specs.Copies.{Copies, CopiesWhole, CopyEnds, HasCopied, HasNumbers, IsFirstThroughout, IsKeptThere, KeepsAll, by_ingest}
-use Rattle.volume_copy.specs.Completing.{IsForRoom, IsUnhindered}
+use Rattle.volume_copy.specs.Completing.{IsForRoom, IsCopyUnhindered}
 use Rattle.volume_copy.specs.First.{HoldsFirst, StaysFirst}
 use Rattle.volume_copy.specs.Pairs.{ArePairs}
 use Rattle.volume_copy.specs.Refusing.{refusal_from}
@@ -48,7 +48,7 @@ use Rattle.volume_copy.proofs.WholeVolumes.{reading_later, stands_among}
 
 -- the source was not audited
 pub not_audited : (slots lists : ℕ) (from from' to : DeviceState) (refusal : Refusal) → Called from from' → IsDevice to
-    → IsHeldThroughout from from' → AuditsSteady from from' (Err refusal) → Refuses from from' refusal
+    → IsHeldThroughout from from' → AuditsSteady from from' (Err refusal) → RefusesVolume from from' refusal
     → Copies slots lists from from' to to (Err (refusal_from refusal))
 not_audited slots lists from from' to refusal called device held audits refuses = record {
   from_called = called;
@@ -60,7 +60,7 @@ not_audited slots lists from from' to refusal called device held audits refuses 
   ends = go refusal refuses;
 }
   where
-    audited : IsUnhindered from from' to to → refusal ≡ refusals.NoMemory
+    audited : IsCopyUnhindered from from' to to → refusal ≡ refusals.NoMemory
     audited free =
         let v = volume_of free.from_sound.is in
         audits v.0 (record {
@@ -71,13 +71,13 @@ not_audited slots lists from from' to refusal called device held audits refuses 
           no_fault = free.unfailed.from_unfailed;
         }) refusal refl
 
-    go : (r : Refusal) → Refuses from from' r → CopyEnds slots lists from from' to to (Err (refusal_from r))
+    go : (r : Refusal) → RefusesVolume from from' r → CopyEnds slots lists from from' to to (Err (refusal_from r))
     go refusals.NoMemory x = tt
     go r x = x
 
 -- all of the source has its pair
 module _ {slots lists : ℕ} {from from' to' : DeviceState} {done : List ℕ} (moved : List Moved) (called : Called from from')
-    (so : CopiedSoFar from' to' moved) (whole : IsWhole from' done) (all : length done ≤ length moved)
+    (so : CopiedSoFar from' to' moved) (whole : IsWholeVolume from' done) (all : length done ≤ length moved)
     (numbers : HasNumbers slots lists so.agree.from_layout so.agree.to_layout) where
   abbrev g : Layout
   g = so.agree.from_layout
@@ -154,7 +154,7 @@ module _ {slots lists : ℕ} {from from' to' : DeviceState} {done : List ℕ} (m
 
 -- the source is whole behind its audit
 whole_audited : {source : AuditedVolume} {from audited new x y : DeviceState} → HasAudited from audited source
-    → Called audited new → AreAlone from new x y → IsWhole audited source.done.items
+    → Called audited new → AreAlone from new x y → IsWholeVolume audited source.done.items
 whole_audited audit called alone = audit.whole alone.from_tells
     (still_first audit.called.foreign_writes called.foreign_writes alone.from_alone)
 
@@ -162,9 +162,9 @@ module _ {slots lists : ℕ} {source : AuditedVolume} {from audited from1 to to1
     (audit : HasAudited from audited source) (held : IsHeldThroughout from audited) (device_from : IsDevice from)
     (device : IsDevice audited) (device1 : IsDevice from1) (device_to : IsDevice to) where
   -- the source, once the target has begun
-  module _ {x : DeviceState} {result : Result (Vec Moved) CopyRefusal} (begins : Begins slots lists source audited from1 to to1 result)
+  module _ {x : DeviceState} {result : Result (Vec Moved) CopyRefusal} (begins : BeginsCopy slots lists source audited from1 to to1 result)
       (alone : AreAlone from from1 to x) (steady : IsSteady to) (to_alone : IsStill to.foreign_writes to1.foreign_writes) where
-    whole1 : IsWhole from1 source.done.items
+    whole1 : IsWholeVolume from1 source.done.items
     whole1 = whole_on device1 begins.from_read
         (still_second audit.called.foreign_writes begins.from_read.called.foreign_writes alone.from_alone)
         (whole_audited audit begins.from_read.called alone)
@@ -184,7 +184,7 @@ module _ {slots lists : ℕ} {source : AuditedVolume} {from audited from1 to to1
         holds
 
   -- the copy did not begin
-  pub not_begun : (refusal : CopyRefusal) → Begins slots lists source audited from1 to to1 (Err refusal)
+  pub not_begun : (refusal : CopyRefusal) → BeginsCopy slots lists source audited from1 to to1 (Err refusal)
       → Copies slots lists from from1 to to1 (Err refusal)
   not_begun refusal begins = record {
     from_called = called_then audit.called begins.from_read.called;
@@ -229,7 +229,7 @@ module _ {slots lists : ℕ} {source : AuditedVolume} {from audited from1 to to1
       go (copies.To r) ends = ends
       go r ends = absurd ends
 
-  module _ {from2 to2 : DeviceState} (device2 : IsDevice from2) (moved : Vec Moved) (begins : Begins slots lists source audited from1 to to1 (Ok moved))
+  module _ {from2 to2 : DeviceState} (device2 : IsDevice from2) (moved : Vec Moved) (begins : BeginsCopy slots lists source audited from1 to to1 (Ok moved))
     where
       -- what a crash leaves of the whole
       first_rested : {new : List Moved} {result : Result Unit CopyRefusal}

@@ -26,7 +26,7 @@ use Rattle.document_store.proofs.Holding.{held_stands}
 use Rattle.recovery_engine.specs.Settling.{HasSettled}
 use Rattle.recovery_engine.specs.declared.settling.Ready.{Ready}
 use Rattle.plan_writer.proofs.PutFrom.{volume_2}
-use Rattle.ingest_engine.specs.Ingesting.{HasLaterStamp, IngestEnds, IsTaken, StampEnds, TakesNoSuchStamp}
+use Rattle.ingest_engine.specs.Ingesting.{HasLaterStamp, IngestEnds, IsIdentifierTaken, CheckStampEnds, TakesNoSuchStamp}
 use Rattle.ingest_engine.specs.Stamps.{IsStampBelow}
 use Rattle.ingest_engine.proofs.CrashedIngests.{ready_layout}
 use Rattle.crash_laws.specs.SettlingSteadiness.{IsSteady}
@@ -148,7 +148,7 @@ module _ {more : ℕ} {from : Image} {u v : DeviceState} (g h : Layout) (from_vo
   )
 
   -- so none has the identifier
-  not_taken : {id : List ℕ} {stamp : Option ℕ} → id ≡ d.id → (n : ℕ) → IsTaken id stamp n u v → ⊥
+  not_taken : {id : List ℕ} {stamp : Option ℕ} → id ≡ d.id → (n : ℕ) → IsIdentifierTaken id stamp n u v → ⊥
   not_taken {id} id_is n taken =
       let has = taken.settled.settled in
       let held = taken.holds tells in
@@ -206,7 +206,7 @@ module _ {more : ℕ} {from : Image} {u v : DeviceState} (g h : Layout) (from_vo
       version : unfit.ready.volume.geometry.version ≡ g.version
       version = ap (λ (l : Layout). l.version) (layout_is unfit.ready unfit.settled) ∙ one_version
 
-      by_end : (refusal : Refusal) → StampEnds unfit.ready stamp (Err refusal) → ⊥
+      by_end : (refusal : Refusal) → CheckStampEnds unfit.ready stamp (Err refusal) → ⊥
       by_end refusals.StampNeeded ends =
           let none : g.version < STAMPED_VERSION = subst (λ (s : Option ℕ). IsStampOf g from d.slot s) ends.1 stamped in
           omega (arith, version, ends.0, none)

@@ -23,7 +23,7 @@ use Rattle.worm_device.proofs.Images.{extends_self}
 use Rattle.worm_device.proofs.Resting.{rests_of}
 use Rattle.commit_record.specs.Licences.{IsLicensed}
 use Rattle.commit_record.specs.Stamps.{IsStampOrNone}
-use Rattle.document_store.specs.Looks.{HoldsBody, HoldsIdentifier, IdentifierEnds, LookFails, Names, of_document, of_state}
+use Rattle.document_store.specs.Looks.{HoldsBody, HoldsIdentifier, IdentifierEnds, LookFails, NamesDocument, of_document, of_state}
 use Rattle.document_store.specs.Standing.{HoldsDocument}
 use Rattle.document_store.proofs.Holding.{held_is_one, held_on}
 use Rattle.document_store.proofs.Naming.{names_from, told}
@@ -128,7 +128,7 @@ module _ (g : Layout) (n : ℕ) where
     only_read = record { called = viewed.called; only = λ still. (rests_of viewed).below still }
 
     licensed : {e : Evidence} → (IsTrue s.tells → IsVolume s.cells s.image g) → IsTrue s.tells
-        → Rattle.tamper_rules.specs.Rules.IsPlaceOf g e.rule e.cell × Names g n (seen_directly s a) (seen_directly t b) e
+        → Rattle.tamper_rules.specs.Rules.IsPlaceOf g e.rule e.cell × NamesDocument g n (seen_directly s a) (seen_directly t b) e
         → IsLicensed s t e
     licensed {e} volume tells named = by_name named.1
       where
@@ -136,7 +136,7 @@ module _ (g : Layout) (n : ℕ) where
         here = subst (λ (k : ℕ). IsVolume k t.image g) (sym viewed.called.cells)
             (volume_on viewed.called.image (volume tells))
 
-        by_name : Names g n (seen_directly s a) (seen_directly t b) e → IsLicensed s t e
+        by_name : NamesDocument g n (seen_directly s a) (seen_directly t b) e → IsLicensed s t e
         by_name (of_state out) = record {
           stands = out.shown.stands;
           layout = g;

@@ -16,7 +16,7 @@ use Rattle.document_store.specs.declared.part.Part.{Part}
 use Rattle.document_store.proofs.Holding.{part_is_done}
 use Rattle.document_store.proofs.Naming.{told}
 use Rattle.volume_copy.specs.Reading.{RiseFrom, SlotFails}
-use Rattle.volume_copy.specs.Walking.{WalkEnds, WalksSlots}
+use Rattle.volume_copy.specs.Walking.{CopyWalkEnds, WalksSlots}
 use Rattle.volume_copy.proofs.Slots.{fails_later, reading_fails}
 
 -- one more number, behind the others
@@ -108,7 +108,7 @@ walk_ends {g} {old} {now} {horizon} {k} slots so_far at_end = subst
 -- over a device
 pub walked : (g : Layout) (horizon : ℕ) (s t : DeviceState) (a b : ℕ)
     → Viewed (seen_directly s a) (seen_directly t b) → (result : Result (Vec ℕ) Refusal)
-    → WalksSlots g horizon (seen_directly s a) (seen_directly t b) result → WalkEnds g horizon s t result
+    → WalksSlots g horizon (seen_directly s a) (seen_directly t b) result → CopyWalkEnds g horizon s t result
 walked g horizon s t a b viewed (Ok slots) ends = ends
 walked g horizon s t a b viewed (Err refusal) ends =
     λ volume. reading_fails g ends.slot s t a b viewed refusal ends.refuses volume

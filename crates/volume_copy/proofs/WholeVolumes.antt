@@ -31,10 +31,10 @@ use Rattle.crash_laws.proofs.EndedAs.{settling_ends}
 use Rattle.volume_audit.specs.Audits.{AuditEnds, Audits, settled, settling}
 use Rattle.volume_audit.specs.Reports.{IsSound}
 use Rattle.volume_audit.specs.declared.report.AuditReport.{AuditReport}
-use Rattle.volume_copy.specs.Auditing.{HasAudited, IsWhole, Refuses, by_audit, by_reading, by_settling}
+use Rattle.volume_copy.specs.Auditing.{HasAudited, IsWholeVolume, RefusesVolume, by_audit, by_reading, by_settling}
 use Rattle.volume_copy.specs.Pairs.{slots_of}
 use Rattle.volume_copy.specs.Reading.{IsOnlyRead, ReadingFails, RiseFrom}
-use Rattle.volume_copy.specs.Walking.{AreDoneBelow, RiseBelow, WalkEnds}
+use Rattle.volume_copy.specs.Walking.{AreDoneBelow, RiseBelow, CopyWalkEnds}
 
 -- a document that stands in a settled volume is one of its documents
 pub stands_among : (cells : ℕ) (image : Image) → Settled cells image → (documents : List Document)
@@ -172,8 +172,8 @@ module _ {old a b new : DeviceState} {report : AuditReport} (r : Ready) (audits 
       (volume_on read.called.image (volume_b tells))
 
   -- going along the slots was ended
-  pub walk_refuses : (refusal : Refusal) → WalkEnds r.volume.geometry r.horizon b new (Err refusal)
-      → Refuses old new refusal
+  pub walk_refuses : (refusal : Refusal) → CopyWalkEnds r.volume.geometry r.horizon b new (Err refusal)
+      → RefusesVolume old new refusal
   walk_refuses refusal ends = by_reading all_of_it
       (reading_later up_to_b read.called refusal (ends (λ tells.
       volume_b (subst IsTrue up_to_b.tells tells))))
@@ -218,11 +218,11 @@ module _ {old a b new : DeviceState} {report : AuditReport} (r : Ready) (audits 
         (subst (λ (i : Image). IsHorizon r.volume.geometry a.image i r.horizon) (sym same_new)
         (settles.ends.1 (tells_a tells)).horizon)
 
-  module _ (slots : Vec ℕ) (walk : WalkEnds r.volume.geometry r.horizon b new (Ok slots)) where
+  module _ (slots : Vec ℕ) (walk : CopyWalkEnds r.volume.geometry r.horizon b new (Ok slots)) where
     among : (place : ℕ) → place < length slots.items → Contains slots.items (slice_index slots.items place)
     among place less = Contains-get_or slots.items place 0 less
 
-    whole : IsTrue old.tells → IsStill old.foreign_writes new.foreign_writes → IsWhole new slots.items
+    whole : IsTrue old.tells → IsStill old.foreign_writes new.foreign_writes → IsWholeVolume new slots.items
     whole tells still =
         let done_new : AreDoneBelow r.volume.geometry new.image new.image r.horizon slots.items =
         subst (λ (i : Image). AreDoneBelow r.volume.geometry i new.image r.horizon slots.items) (sym (same_new tells still))
@@ -249,7 +249,7 @@ module _ {old a b new : DeviceState} {report : AuditReport} (r : Ready) (audits 
     }
 
 -- whoever refuses, a row of calls was made
-pub refuses_called : {old new : DeviceState} {refusal : Refusal} → Refuses old new refusal → Called old new
+pub refuses_called : {old new : DeviceState} {refusal : Refusal} → RefusesVolume old new refusal → Called old new
 refuses_called (by_audit audits) = audits.called
 refuses_called (by_settling between report audits settles) = called_then audits.called settles.called
 refuses_called (by_reading called fails) = called

@@ -16,7 +16,7 @@ use Rattle.volume_copy.specs.Completing.{AreOfOneVersion, EndsUnhindered}
 use Rattle.volume_copy.specs.First.{StaysFirst}
 use Rattle.cell_types.specs.Image.{IsUnchanged}
 use Rattle.tamper_rules.specs.Settling.{Settled}
-use Rattle.volume_copy.specs.Auditing.{IsWhole}
+use Rattle.volume_copy.specs.Auditing.{IsWholeVolume}
 use Rattle.volume_copy.specs.Pairs.{AgreeSoFar}
 use Rattle.volume_copy.specs.Reading.{IsOnlyRead, ReadingFails}
 use Rattle.volume_copy.specs.Staying.{IsSoundThroughout}
@@ -51,12 +51,12 @@ AddFails g n from from' to to' (To refusal) = IngestsOf g n from' to to' (Err re
 AddFails g n from from' to to' refusal = ⊥
 
 -- how copying the document of one place may end, and why
-abbrev pub AddEnds
+abbrev pub AddDocumentEnds
     : AuditedVolume → ℕ → DeviceState → DeviceState → DeviceState → DeviceState → Result Moved CopyRefusal → Type 0
-AddEnds source place from from' to to' (Ok pair) =
+AddDocumentEnds source place from from' to to' (Ok pair) =
     (pair.old ≡ slice_index source.done.items place)
     × IngestsOf source.volume.geometry pair.old from' to to' (Ok pair.new)
-AddEnds source place from from' to to' (Err refusal) =
+AddDocumentEnds source place from from' to to' (Err refusal) =
     AddFails source.volume.geometry (slice_index source.done.items place) from from' to to' refusal
 
 -- Nobody else writing, each document of the target has its pair among the first ones of the source; the target is settled,
@@ -71,7 +71,7 @@ pub record CopiedSoFar (from to : DeviceState) (moved : List Moved) : Type 0 whe
 abbrev pub WhereCopied
     : AuditedVolume → DeviceState → DeviceState → DeviceState → DeviceState → List Moved → Type 0 → Type 0
 WhereCopied source from from' to to' moved P =
-    AreAlone from from' to to' → IsWhole from source.done.items → CopiedSoFar from to moved → P
+    AreAlone from from' to to' → IsWholeVolume from source.done.items → CopiedSoFar from to moved → P
 
 -- then, where no call fails and both volumes have one version, nothing else hinders
 abbrev pub Completes
@@ -89,7 +89,7 @@ pub record AddsNext (source : AuditedVolume) (place : ℕ) (from from' to to' : 
   pub to_first : (moved : List Moved) → length moved ≡ place
       → WhereCopied source from from' to to' moved (StaysFirst from'.cells from'.image to to')
   pub complete : (moved : List Moved) → length moved ≡ place → Completes source from from' to to' moved result
-  pub ends : AddEnds source place from from' to to' result
+  pub ends : AddDocumentEnds source place from from' to to' result
 
 -- an ingest of a document of the source was refused
 pub record IngestRefused (g : Layout) (from old new : DeviceState) (refusal : Refusal) : Type 0 where
@@ -108,8 +108,9 @@ RestFails g from from' to to' (To refusal) = IngestRefused g from' to to' refusa
 RestFails g from from' to to' refusal = ⊥
 
 -- what was copied so far, and then all, under the premises that nobody else writes and that the source is whole
-abbrev pub GoesOn : AuditedVolume → DeviceState → DeviceState → DeviceState → DeviceState → List Moved → List Moved → Type 0
-GoesOn source from from' to to' moved moved' =
+abbrev pub CopyGoesOn : AuditedVolume → DeviceState → DeviceState → DeviceState → DeviceState → List Moved → List Moved
+    → Type 0
+CopyGoesOn source from from' to to' moved moved' =
     WhereCopied source from from' to to' moved (CopiedSoFar from' to' moved')
 
 -- how it may end, and why
@@ -117,7 +118,7 @@ abbrev pub RestEnds
     : AuditedVolume → DeviceState → DeviceState → DeviceState → DeviceState → List Moved → List Moved
     → Result Unit CopyRefusal → Type 0
 RestEnds source from from' to to' moved moved' (Ok u) =
-    (length source.done.items ≤ length moved') × GoesOn source from from' to to' moved moved'
+    (length source.done.items ≤ length moved') × CopyGoesOn source from from' to to' moved moved'
 RestEnds source from from' to to' moved moved' (Err refusal) =
     RestFails source.volume.geometry from from' to to' refusal
 

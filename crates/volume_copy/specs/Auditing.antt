@@ -20,14 +20,14 @@ use Rattle.volume_copy.specs.Reading.{ReadingFails}
 use Rattle.volume_copy.specs.declared.audited.AuditedVolume.{AuditedVolume}
 
 -- Why a volume is not read: its audit refuses; or it was audited, and settling refuses behind it, or a look at its slots.
-pub data Refuses (old new : DeviceState) (refusal : Refusal) : Type 0 where
-  by_audit : Audits old new (Err refusal) → Refuses old new refusal
+pub data RefusesVolume (old new : DeviceState) (refusal : Refusal) : Type 0 where
+  by_audit : Audits old new (Err refusal) → RefusesVolume old new refusal
   by_settling : (between : DeviceState) (report : AuditReport) → Audits old between (Ok report)
-      → Settles between new (Err refusal) → Refuses old new refusal
-  by_reading : Called old new → ReadingFails old new refusal → Refuses old new refusal
+      → Settles between new (Err refusal) → RefusesVolume old new refusal
+  by_reading : Called old new → ReadingFails old new refusal → RefusesVolume old new refusal
 
 -- The volume is settled, all that stands is sure, and these are the slots of its documents.
-pub record IsWhole (s : DeviceState) (done : List ℕ) : Type 0 where
+pub record IsWholeVolume (s : DeviceState) (done : List ℕ) : Type 0 where
   pub settled : Settled s.cells s.image
   pub sure : IsUnchanged s.image s.sure
   pub slots : (documents : List Document) → AreDocuments s.cells s.image documents → slots_of documents ≡ done
@@ -43,7 +43,7 @@ pub record HasAudited (old new : DeviceState) (volume : AuditedVolume) : Type 0 
   pub is_volume : IsTrue old.tells → IsVolume new.cells new.image volume.volume.geometry
   pub done : IsTrue old.tells → (place : ℕ) → place < length volume.done.items
       → IsDoneSlot volume.volume.geometry new.image (slice_index volume.done.items place)
-  pub whole : IsTrue old.tells → IsStill old.foreign_writes new.foreign_writes → IsWhole new volume.done.items
+  pub whole : IsTrue old.tells → IsStill old.foreign_writes new.foreign_writes → IsWholeVolume new volume.done.items
 
 -- An audit of a steady volume, with nobody else writing and no call that fails, is refused for want of memory alone.
 abbrev pub AuditsSteady : DeviceState → DeviceState → Result AuditedVolume Refusal → Type 0
@@ -53,4 +53,4 @@ AuditsSteady old new result =
 -- how auditing a volume that is to be copied may end, and why
 abbrev pub SourceEnds : DeviceState → DeviceState → Result AuditedVolume Refusal → Type 0
 SourceEnds old new (Ok volume) = HasAudited old new volume
-SourceEnds old new (Err refusal) = Refuses old new refusal
+SourceEnds old new (Err refusal) = RefusesVolume old new refusal

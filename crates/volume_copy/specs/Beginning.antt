@@ -10,7 +10,7 @@ use Rattle.volume_meaning.specs.Volumes.{IsVolume, volume_record}
 use Rattle.worm_device.specs.Calls.{Called}
 use Rattle.worm_device.specs.State.{DeviceState}
 use Rattle.volume_copy.specs.Adding.{CopiedSoFar}
-use Rattle.volume_copy.specs.Auditing.{IsWhole}
+use Rattle.volume_copy.specs.Auditing.{IsWholeVolume}
 use Rattle.crash_laws.specs.SettlingSteadiness.{IsSteady}
 use Rattle.volume_copy.specs.Alone.{AreAlone, AreUnfailed}
 use Rattle.volume_copy.specs.Completing.{EndsUnhindered}
@@ -42,7 +42,7 @@ HaveNumbers slots lists from to =
 -- where nobody else writes, and the source is whole
 abbrev pub WhereSourceWhole : AuditedVolume → DeviceState → DeviceState → DeviceState → DeviceState → Type 0 → Type 0
 WhereSourceWhole source from from' to to' P =
-    AreAlone from from' to to' → IsWhole from source.done.items → P
+    AreAlone from from' to to' → IsWholeVolume from source.done.items → P
 
 -- how it may end, and why
 abbrev pub BeginEnds
@@ -66,19 +66,19 @@ BeginEnds slots lists source from from' to to' (Err refusal) = ⊥
 
 -- Nothing hinders it: nobody else writes, no call fails, the source is whole, and the target is steady and has no written
 -- cell or holds the first documents of the source.
-pub record IsFree (source : AuditedVolume) (from from' to to' : DeviceState) : Type 0 where
+pub record IsCopyFree (source : AuditedVolume) (from from' to to' : DeviceState) : Type 0 where
   pub alone : AreAlone from from' to to'
   pub unfailed : AreUnfailed from from' to to'
-  pub whole : IsWhole from source.done.items
+  pub whole : IsWholeVolume from source.done.items
   pub steady : IsSteady to
   pub first : HoldsFirst from.cells from.image to.cells to.image
 
-pub record Begins (slots lists : ℕ) (source : AuditedVolume) (from from' to to' : DeviceState)
+pub record BeginsCopy (slots lists : ℕ) (source : AuditedVolume) (from from' to to' : DeviceState)
     (result : Result (Vec Moved) CopyRefusal) : Type 0 where
   pub from_read : IsOnlyRead from from'
   pub to_called : Called to to'
   pub to_held : IsHeldThroughout to to'
-  pub complete : IsFree source from from' to to' → EndsUnhindered result
+  pub complete : IsCopyFree source from from' to to' → EndsUnhindered result
   pub ends : BeginEnds slots lists source from from' to to' result
 
 -- whether a cell states another volume

@@ -6,7 +6,7 @@ use Rattle.cell_types.specs.declared.refusal.CopyRefusal.TheVariants.{Differs, F
 use Rattle.cell_types.specs.declared.refusal.Refusal.TheVariants as refusals
 use Rattle.worm_device.specs.State.{DeviceState}
 use Rattle.volume_copy.specs.Adding.{CopiedSoFar}
-use Rattle.volume_copy.specs.Auditing.{IsWhole}
+use Rattle.volume_copy.specs.Auditing.{IsWholeVolume}
 use Rattle.volume_copy.specs.Alone.{AreAlone}
 use Rattle.volume_copy.specs.Copies.{HoldOthers, IsFirstPast, IsFirstToDiffer}
 use Rattle.volume_copy.specs.Reading.{HoldsCopy, IsOnlyRead, ReadingFails}
@@ -39,50 +39,50 @@ pub record FindsOther (source target : AuditedVolume) (place : ℕ) (from to : D
   pub other : IsSameCopy read.one read.other → ⊥
 
 -- how comparing the documents of one place may end, and why
-abbrev pub NextEnds
+abbrev pub NextPairEnds
     : AuditedVolume → AuditedVolume → ℕ → DeviceState → DeviceState → DeviceState → DeviceState → Result Moved CopyRefusal
     → Type 0
-NextEnds source target place from from' to to' (Ok pair) = FindsSame source target place from' to' pair.old pair.new
-NextEnds source target place from from' to to' (Err (Differs old new)) =
+NextPairEnds source target place from from' to to' (Ok pair) = FindsSame source target place from' to' pair.old pair.new
+NextPairEnds source target place from from' to to' (Err (Differs old new)) =
     FindsOther source target place from' to' old new
-NextEnds source target place from from' to to' (Err NoMemory) = ⊤
-NextEnds source target place from from' to to' (Err (From refusals.NoMemory)) = ⊥
-NextEnds source target place from from' to to' (Err (From refusal)) = ReadingFails from from' refusal
-NextEnds source target place from from' to to' (Err (To refusals.NoMemory)) = ⊥
-NextEnds source target place from from' to to' (Err (To refusal)) = ReadingFails to to' refusal
-NextEnds source target place from from' to to' (Err refusal) = ⊥
+NextPairEnds source target place from from' to to' (Err NoMemory) = ⊤
+NextPairEnds source target place from from' to to' (Err (From refusals.NoMemory)) = ⊥
+NextPairEnds source target place from from' to to' (Err (From refusal)) = ReadingFails from from' refusal
+NextPairEnds source target place from from' to to' (Err (To refusals.NoMemory)) = ⊥
+NextPairEnds source target place from from' to to' (Err (To refusal)) = ReadingFails to to' refusal
+NextPairEnds source target place from from' to to' (Err refusal) = ⊥
 
 pub record ComparesNext (source target : AuditedVolume) (place : ℕ) (from from' to to' : DeviceState)
     (result : Result Moved CopyRefusal) : Type 0 where
   pub from_read : IsOnlyRead from from'
   pub to_read : IsOnlyRead to to'
-  pub ends : NextEnds source target place from from' to to' result
+  pub ends : NextPairEnds source target place from from' to to' result
 
 -- where nobody else writes, and both volumes are whole
 abbrev pub WhereWhole : AuditedVolume → AuditedVolume → DeviceState → DeviceState → DeviceState → DeviceState → Type 0 → Type 0
 WhereWhole source target from from' to to' P =
-    AreAlone from from' to to' → IsWhole from source.done.items → IsWhole to target.done.items → P
+    AreAlone from from' to to' → IsWholeVolume from source.done.items → IsWholeVolume to target.done.items → P
 
 -- how comparing all documents of the target may end, and why
-abbrev pub CompareEnds
+abbrev pub CompareVolumesEnds
     : AuditedVolume → AuditedVolume → DeviceState → DeviceState → DeviceState → DeviceState
     → Result (Vec Moved) CopyRefusal → Type 0
-CompareEnds source target from from' to to' (Ok moved) =
+CompareVolumesEnds source target from from' to to' (Ok moved) =
     WhereWhole source target from from' to to' (CopiedSoFar from' to' moved.items)
-CompareEnds source target from from' to to' (Err (Differs old new)) =
+CompareVolumesEnds source target from from' to to' (Err (Differs old new)) =
     (IsTrue from.tells → IsTrue to.tells → HoldOthers from' to' old new)
     × WhereWhole source target from from' to to' (IsFirstToDiffer from' to' old new)
-CompareEnds source target from from' to to' (Err (Longer new)) =
+CompareVolumesEnds source target from from' to to' (Err (Longer new)) =
     WhereWhole source target from from' to to' (IsFirstPast from' to' new)
-CompareEnds source target from from' to to' (Err NoMemory) = ⊤
-CompareEnds source target from from' to to' (Err (From refusals.NoMemory)) = ⊥
-CompareEnds source target from from' to to' (Err (From refusal)) = ReadingFails from from' refusal
-CompareEnds source target from from' to to' (Err (To refusals.NoMemory)) = ⊥
-CompareEnds source target from from' to to' (Err (To refusal)) = ReadingFails to to' refusal
-CompareEnds source target from from' to to' (Err refusal) = ⊥
+CompareVolumesEnds source target from from' to to' (Err NoMemory) = ⊤
+CompareVolumesEnds source target from from' to to' (Err (From refusals.NoMemory)) = ⊥
+CompareVolumesEnds source target from from' to to' (Err (From refusal)) = ReadingFails from from' refusal
+CompareVolumesEnds source target from from' to to' (Err (To refusals.NoMemory)) = ⊥
+CompareVolumesEnds source target from from' to to' (Err (To refusal)) = ReadingFails to to' refusal
+CompareVolumesEnds source target from from' to to' (Err refusal) = ⊥
 
 pub record ComparesAll (source target : AuditedVolume) (from from' to to' : DeviceState)
     (result : Result (Vec Moved) CopyRefusal) : Type 0 where
   pub from_read : IsOnlyRead from from'
   pub to_read : IsOnlyRead to to'
-  pub ends : CompareEnds source target from from' to to' result
+  pub ends : CompareVolumesEnds source target from from' to to' result

@@ -13,7 +13,7 @@ use Rattle.volume_copy.specs.First.{HoldsFirst}
 
 -- Nobody else writes on either device, and no call of them fails. The source is a sound volume, the target has no written
 -- cell or holds the first documents of the source, and whatever a crash leaves of either is blank or sound.
-pub record IsUnhindered (from from' to to' : DeviceState) : Type 0 where
+pub record IsCopyUnhindered (from from' to to' : DeviceState) : Type 0 where
   pub alone : AreAlone from from' to to'
   pub unfailed : AreUnfailed from from' to to'
   pub from_sound : Sound from.cells from.image

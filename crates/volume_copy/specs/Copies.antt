@@ -21,9 +21,9 @@ use Rattle.document_store.specs.Standing.{HoldsDocument}
 use Rattle.ingest_engine.specs.Formats.{Formats}
 use Rattle.ingest_engine.specs.Ingesting.{Ingests, document_in}
 use Rattle.crash_laws.specs.SettlingSteadiness.{IsSteady}
-use Rattle.volume_copy.specs.Auditing.{Refuses}
+use Rattle.volume_copy.specs.Auditing.{RefusesVolume}
 use Rattle.volume_copy.specs.Alone.{AreAlone}
-use Rattle.volume_copy.specs.Completing.{EndsUnhindered, IsUnhindered}
+use Rattle.volume_copy.specs.Completing.{EndsUnhindered, IsCopyUnhindered}
 use Rattle.volume_copy.specs.First.{HoldsFirst}
 use Rattle.volume_copy.specs.Pairs.{AgreeSoFar, ArePairs, SaysSame}
 use Rattle.volume_copy.specs.Staying.{IsHeldThroughout, IsSoundThroughout}
@@ -91,7 +91,7 @@ pub data RefusesTo (slots lists : ℕ) (from' old new : DeviceState) (refusal : 
   by_format : (between : DeviceState) (version : ℕ) → Called old between → IsOfVersion from' version
       → Formats (record { slots = slots; lists = lists; cells = between.cells; version = version }) between new (Err refusal)
       → RefusesTo slots lists from' old new refusal
-  by_volume : (between : DeviceState) → Called old between → Refuses between new refusal
+  by_volume : (between : DeviceState) → Called old between → RefusesVolume between new refusal
       → RefusesTo slots lists from' old new refusal
   by_ingest : (between : DeviceState) (id : List ℕ) (stamp : Option ℕ) (body : List ℕ) → Called old between
       → (IsTrue from'.tells → IsOfSource from' id stamp body) → Ingests id stamp body between new (Err refusal)
@@ -149,7 +149,7 @@ abbrev pub CopyEnds
 CopyEnds slots lists from from' to to' (Ok moved) =
     AreAlone from from' to to' → HasCopied slots lists from from' to' moved.items
 CopyEnds slots lists from from' to to' (Err (From refusals.NoMemory)) = ⊥
-CopyEnds slots lists from from' to to' (Err (From refusal)) = Refuses from from' refusal
+CopyEnds slots lists from from' to to' (Err (From refusal)) = RefusesVolume from from' refusal
 CopyEnds slots lists from from' to to' (Err (To refusals.NoMemory)) = ⊥
 CopyEnds slots lists from from' to to' (Err (To refusal)) = RefusesTo slots lists from' to to' refusal
 CopyEnds slots lists from from' to to' (Err (OtherVolume cell)) = IsOtherVolume slots lists from' to' cell
@@ -178,5 +178,5 @@ pub record Copies (slots lists : ℕ) (from from' to to' : DeviceState) (result 
     pub from_held : IsHeldThroughout from from'
     pub to_sound : IsSoundThroughout to to'
     pub to_first : IsFirstThroughout from from' to to'
-    pub complete : IsUnhindered from from' to to' → EndsUnhindered result
+    pub complete : IsCopyUnhindered from from' to to' → EndsUnhindered result
     pub ends : CopyEnds slots lists from from' to to' result

@@ -15,7 +15,7 @@ use Rattle.commit_record.specs.Licences.{IsLicensed}
 use Rattle.tamper_rules.specs.Rules.{IsPlaceOf}
 use Rattle.cell_types.specs.declared.refusal.Evidence.{Evidence}
 use Rattle.host_ports.specs.declared.memory.MemorySink.{MemorySink}
-use Rattle.document_store.specs.Looks.{HoldsBody, Names}
+use Rattle.document_store.specs.Looks.{HoldsBody, NamesDocument}
 use Rattle.document_store.specs.Standing.{HoldsDocument}
 use Rattle.volume_copy.specs.declared.stored.StoredCopy.{StoredCopy}
 
@@ -28,7 +28,7 @@ pub record HoldsCopy (g : Layout) (image : Image) (n : ℕ) (copy : StoredCopy) 
 abbrev pub SlotFails : Layout → ℕ → ViewState → ViewState → Refusal → Type 0
 SlotFails g n old new NoMemory = ⊤
 SlotFails g n old new DeviceFault = Rose old.base.faults new.base.faults
-SlotFails g n old new (Tampered e) = IsTrue old.base.tells → IsPlaceOf g e.rule e.cell × Names g n old new e
+SlotFails g n old new (Tampered e) = IsTrue old.base.tells → IsPlaceOf g e.rule e.cell × NamesDocument g n old new e
 SlotFails g n old new refusal = ⊥
 
 -- how reading the identifier of slot n's document may end, and why

@@ -33,8 +33,8 @@ WalksSlots g horizon old new (Ok slots) =
 WalksSlots g horizon old new (Err refusal) = RefusesLook g old new refusal
 
 -- The same of a device. Where cell 0 states this layout, a cell that is named is evidence.
-abbrev pub WalkEnds : Layout → ℕ → DeviceState → DeviceState → Result (Vec ℕ) Refusal → Type 0
-WalkEnds g horizon old new (Ok slots) =
+abbrev pub CopyWalkEnds : Layout → ℕ → DeviceState → DeviceState → Result (Vec ℕ) Refusal → Type 0
+CopyWalkEnds g horizon old new (Ok slots) =
     RiseBelow horizon slots.items × (IsTrue old.tells → AreDoneBelow g old.image new.image horizon slots.items)
-WalkEnds g horizon old new (Err refusal) =
+CopyWalkEnds g horizon old new (Err refusal) =
     (IsTrue old.tells → IsVolume old.cells old.image g) → ReadingFails old new refusal

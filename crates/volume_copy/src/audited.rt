@@ -20,7 +20,7 @@ pub(crate) struct AuditedVolume {
 
 /// Audits the volume, and goes along its slots. An audit says how many documents there are, and not where: so the end of the
 /// log is asked for again, behind it.
-pub(crate) fn audit_volume<D: Device, M: Meter>(
+pub(crate) fn audited_volume<D: Device, M: Meter>(
     alloc: Global,
     device: &mut D,
     meter: &mut M,

@@ -2,7 +2,7 @@
 ghost use Rattle.volume_copy.specs.Copies.{Copies};
 
 use crate::adding::copy_rest;
-use crate::audited::audit_volume;
+use crate::audited::audited_volume;
 use crate::moved::Moved;
 use crate::refused::from_source;
 use crate::target::begin;
@@ -44,7 +44,7 @@ pub fn copy_metered<D: Device, E: Device, M: Meter>(
 ) -> Result<Vec<Moved>, CopyRefusal>
     ensures { Copies slots lists (D.state from.old) (D.state from.new) (E.state to.old) (E.state to.new) result }
 {
-    let source = match audit_volume(alloc, from, meter) {
+    let source = match audited_volume(alloc, from, meter) {
         Ok(source) => source,
         Err(refusal) => return Err(from_source(refusal)),
     };

@@ -21,7 +21,7 @@
 //! in order; and each document that was kept in the source at the beginning is kept there (`HasCopied`). Whatever a crash
 //! leaves of either device is blank or sound, at each moment and at every answer (`IsSoundThroughout`), and what it leaves
 //! of the target holds the first documents of the source (`IsFirstThroughout`). Where no call fails besides, a copy is
-//! done, or refused because the target is another volume, or lacks the room, or for want of memory (`IsUnhindered`). **Not
+//! done, or refused because the target is another volume, or lacks the room, or for want of memory (`IsCopyUnhindered`). **Not
 //! claimed**: that a target with fewer lists or cells has room.
 //!
 //! Stands on `volume_audit`, `document_store` (reading) and `ingest_engine` (writing), and on `host_ports`: `copy_metered`

@@ -25,7 +25,7 @@ pub(crate) fn to_target(refusal: Refusal) -> CopyRefusal
 }
 
 /// The refusal of a target that is another volume.
-pub(crate) fn is_other(cell: Cell) -> CopyRefusal
+pub(crate) fn other_volume(cell: Cell) -> CopyRefusal
     ensures { result ≡ other_volume cell }
 {
     CopyRefusal::OtherVolume(cell)

@@ -1,12 +1,12 @@
 //! How a copy begins on the target.
 ghost use Rattle.std.specs.Prelude.{◌≡◌, ◌≤◌};
 ghost use Rattle.volume_copy.specs.Adding.{CanBeRead};
-ghost use Rattle.volume_copy.specs.Beginning.{Begins, IsStatedOther};
+ghost use Rattle.volume_copy.specs.Beginning.{BeginsCopy, IsStatedOther};
 
-use crate::audited::{AuditedVolume, audit_volume};
+use crate::audited::{AuditedVolume, audited_volume};
 use crate::comparing::compare;
 use crate::moved::Moved;
-use crate::refused::{is_other, to_target};
+use crate::refused::{other_volume, to_target};
 use cell_types::{Cell, CopyRefusal, Refusal};
 use commit_record::volume_of;
 use host_ports::Meter;
@@ -27,7 +27,7 @@ pub(crate) fn begin<D: Device, E: Device, M: Meter>(
 ) -> Result<Vec<Moved>, CopyRefusal>
     requires source { CanBeRead (D.state from.old) source.now }
     requires version { source.now.volume.version ≡ source.now.volume.geometry.version }
-    ensures { Begins slots lists source.now (D.state from.old) (D.state from.new) (E.state to.old) (E.state to.new)
+    ensures { BeginsCopy slots lists source.now (D.state from.old) (D.state from.new) (E.state to.old) (E.state to.new)
         result }
 {
     let version = source.volume.geometry.version();
@@ -41,9 +41,9 @@ pub(crate) fn begin<D: Device, E: Device, M: Meter>(
         };
     };
     if states_other(cell, to.cells(), slots, lists, version) {
-        return Err(is_other(cell));
+        return Err(other_volume(cell));
     }
-    match audit_volume(alloc, to, meter) {
+    match audited_volume(alloc, to, meter) {
         Ok(target) => compare(alloc, from, source, to, &target),
         Err(refusal) => Err(to_target(refusal)),
     }

@@ -2,7 +2,7 @@
 ghost use Rattle.std.specs.Prelude.{◌≡◌, ◌≤◌};
 ghost use Rattle.worm_device.specs.Views.{Viewed};
 ghost use Rattle.volume_copy.specs.Reading.{IsOnlyRead, RiseFrom};
-ghost use Rattle.volume_copy.specs.Walking.{WalkEnds, WalksSlots};
+ghost use Rattle.volume_copy.specs.Walking.{CopyWalkEnds, WalksSlots};
 
 use cell_types::{Refusal, Volume};
 use document_store::slot_part;
@@ -19,7 +19,7 @@ pub(crate) fn done_slots<D: Device>(
     requires most { horizon ≤ volume.now.geometry.slots }
     requires size { volume.now.geometry.cells ≡ (D.state device.old).cells }
     ensures read { IsOnlyRead (D.state device.old) (D.state device.new) }
-    ensures ends { WalkEnds volume.now.geometry horizon (D.state device.old) (D.state device.new) result }
+    ensures ends { CopyWalkEnds volume.now.geometry horizon (D.state device.old) (D.state device.new) result }
 {
     done_in(alloc, &mut Direct::new(device), volume, horizon)
 }

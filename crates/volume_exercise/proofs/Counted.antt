@@ -2,14 +2,14 @@
 use Rattle.std.proofs.Common.{◌≡◌, ◌+◌, ◌-◌, ℕ, List, drop, ap, take, ◌∙◌, arith}
 use Rattle.std.specs.List.{count_by, sum_by}
 use Rattle.script_replies.specs.declared.reply.Reply.{Reply}
-use Rattle.volume_exercise.specs.Tallies.{counted_text, is_acknowledged, lines_of, matches_in, of_ingests, of_look_ups, of_pairs, of_singles, returned_from, sound_line}
+use Rattle.volume_exercise.specs.Tallies.{counted_text, is_acknowledged, tally_lines, matches_in, of_ingests, of_look_ups, of_pairs, of_singles, returned_from, sound_line}
 
 pub same_lines : (n a b m l p o q r : ℕ) (s t : List ℕ) → a ≡ b → m ≡ l → p ≡ o → q ≡ r → s ≡ t
-    → lines_of n a m p q s ≡ lines_of n b l o r t
+    → tally_lines n a m p q s ≡ tally_lines n b l o r t
 same_lines n a b m l p o q r s t a_is m_is p_is q_is s_is =
-    ap (λ (x : ℕ). lines_of n x m p q s) a_is ∙ ap (λ (x : ℕ). lines_of n b x p q s) m_is
-    ∙ ap (λ (x : ℕ). lines_of n b l x q s) p_is ∙ ap (λ (x : ℕ). lines_of n b l o x s) q_is
-    ∙ ap (λ (x : List ℕ). lines_of n b l o r x) s_is
+    ap (λ (x : ℕ). tally_lines n x m p q s) a_is ∙ ap (λ (x : ℕ). tally_lines n b x p q s) m_is
+    ∙ ap (λ (x : ℕ). tally_lines n b l x q s) p_is ∙ ap (λ (x : ℕ). tally_lines n b l o x s) q_is
+    ∙ ap (λ (x : List ℕ). tally_lines n b l o r x) s_is
 
 module _ (n : ℕ) (replies : List Reply) where
   pub counted_lines : (a m p q : ℕ) (sound : List ℕ)
@@ -17,7 +17,7 @@ module _ (n : ℕ) (replies : List Reply) where
       → m ≡ sum_by matches_in (take (1 + n + 200 - (1 + n)) (drop (1 + n) replies))
       → p ≡ sum_by matches_in (take (1 + n + 200 + 199 - (1 + n + 200)) (drop (1 + n + 200) replies))
       → q ≡ returned_from 0 (take (1 + n + 200 + 199 + n - (1 + n + 200 + 199)) (drop (1 + n + 200 + 199) replies))
-      → sound ≡ sound_line replies → lines_of n a m p q sound ≡ counted_text n replies
+      → sound ≡ sound_line replies → tally_lines n a m p q sound ≡ counted_text n replies
   counted_lines a m p q sound a_is m_is p_is q_is sound_is =
       let first : 1 + n - 1 ≡ n = omega arith in
       let second : 1 + n + 200 - (1 + n) ≡ 200 = omega arith in

@@ -11,7 +11,7 @@ use Rattle.volume_meaning.specs.Words.{HasWord, words_of}
 use Rattle.volume_meaning.specs.declared.word_rules.WordRule.TheVariants.{Ascii}
 use Rattle.volume_meaning.proofs.Lists.{Rising, one_list}
 use Rattle.volume_meaning.proofs.Words.{words_are_one}
-use Rattle.record_query.specs.Finding.{Rises}
+use Rattle.record_query.specs.Finding.{MatchesRise}
 use Rattle.record_query.specs.declared.found.Match.{Match}
 use Rattle.volume_exercise.specs.Telling.{TermsAreWords}
 
@@ -155,7 +155,7 @@ unfolding found_slots
 found_count [] = refl
 found_count (m ∷ ms) = ap suc (found_count ms)
 
-found_rise : (from : ℕ) (ms : List Match) → Rises from ms → Rising (λ (n : ℕ). n) from (found_slots ms)
+found_rise : (from : ℕ) (ms : List Match) → MatchesRise from ms → Rising (λ (n : ℕ). n) from (found_slots ms)
 unfolding found_slots
 found_rise from [] rise = tt
 found_rise from (m ∷ ms) rise = (rise.0, found_rise (m.slot + 1) ms rise.1)
@@ -184,7 +184,7 @@ found_of (e ∷ ms) n c = ⊎_elim
     (in_cons e.slot (found_slots ms) n c)
 
 -- As many matches as documents that pass the test, where both rise and are of the same slots.
-pub as_many_found : (p : Document → Bool) (ds : List Document) (ms : List Match) → Rise 0 ds → Rises 0 ms
+pub as_many_found : (p : Document → Bool) (ds : List Document) (ms : List Match) → Rise 0 ds → MatchesRise 0 ms
     → ((d : Document) → Contains ds d → p d ≡ true → (m : Match) × Contains ms m × (m.slot ≡ d.slot))
     → ((m : Match) → Contains ms m → (d : Document) × Contains ds d × (p d ≡ true) × (d.slot ≡ m.slot))
     → length ms ≡ count_by p ds

@@ -29,7 +29,7 @@ use Rattle.script_replies.specs.Beginnings.{begun_with}
 use Rattle.hostile_replay.specs.Completeness.{IsDoneWherePossible, IsFormattedReply, IsFoundReply, IsLookedUpReply, IsSoundReply}
 use Rattle.hostile_replay.specs.Headline.{AcknowledgedAreReturned, IsNew, Returns}
 use Rattle.hostile_replay.specs.Steadily.{IsWholeTurn, begun_by}
-use Rattle.hostile_replay.specs.Turns.{Turns, layout_on}
+use Rattle.hostile_replay.specs.Turns.{Turns, event_layout}
 use Rattle.hostile_replay.specs.Undisturbed.{IsDoneReply, IsLeftPlain, IsPlain, IsPlainTurn, PlainIsDone, events_of}
 use Rattle.hostile_replay.specs.Worlds.{AreInTurn, IsWorld, Turn, acknowledged, acknowledged_by}
 use Rattle.hostile_replay.proofs.Along.{along, split}
@@ -202,7 +202,7 @@ formatted_done r is = absurd is
 module _ (n : ℕ) (some : 1 ≤ n) (most : n ≤ 2000) (old new : Memory) (blank : old.changes ≡ [])
     (turned : Turns (format_event n) reply.Formatted old new) (still : IsStill old.foreign_writes new.foreign_writes)
     (settled : Settled new.cells (device_of new).image)
-    (volume : IsVolume new.cells (device_of new).image (layout_on n 16 1 old.cells)) where
+    (volume : IsVolume new.cells (device_of new).image (event_layout n 16 1 old.cells)) where
   free_cell : (cell : ℕ) → 1 ≤ cell → (device_of new).image cell ≡ None
   free_cell cell behind = ⊎_elim
       (λ (same : (device_of new).image cell ≡ (device_of old).image cell).
@@ -211,7 +211,7 @@ module _ (n : ℕ) (some : 1 ≤ n) (most : n ≤ 2000) (old new : Memory) (blan
       absurd (omega (arith, behind, w.0)))
       (turned.answers.only still cell)
 
-  pub stocked_first : IsStocked (layout_on n 16 1 old.cells) 0 (device_of new)
+  pub stocked_first : IsStocked (event_layout n 16 1 old.cells) 0 (device_of new)
   stocked_first = record {
     volume = volume;
     settled = settled;
@@ -221,7 +221,7 @@ module _ (n : ℕ) (some : 1 ≤ n) (most : n ≤ 2000) (old new : Memory) (blan
       free = λ less. free_cell (reserve_at 0) (omega arith);
     };
     edge = λ at e. ⊎_elim
-        (λ (first : (e.u ≡ 0) × (at ≡ pool_at (layout_on n 16 1 old.cells))). omega (arith, first.1))
+        (λ (first : (e.u ≡ 0) × (at ≡ pool_at (event_layout n 16 1 old.cells))). omega (arith, first.1))
         (λ w. absurd (none-some w.4.reserve.cell
         (sym (free_cell (reserve_at w.0) (omega arith)) ∙ w.4.reserve.stands)))
         e.ends;
@@ -261,7 +261,7 @@ module _ (plain : PlainIsDone) (returned : AcknowledgedAreReturned) (n : ℕ) (s
   cells_are = ap (λ (m : Memory). m.cells) is_new
 
   abbrev g : Layout
-  g = layout_on n 16 1 from.cells
+  g = event_layout n 16 1 from.cells
 
   -- what is known at a turn of the world
   pub record IsAt (before : List Turn) (t : Turn) : Type 0 where
@@ -359,7 +359,7 @@ module _ (plain : PlainIsDone) (returned : AcknowledgedAreReturned) (n : ℕ) (s
   format_turned : Turns (format_event n) c.format.reply c.format.old c.format.new
   format_turned = subst (λ (e : Event). Turns e c.format.reply c.format.old c.format.new) c.format_is at_format.turned
 
-  format_layout : IsLayout (layout_on n 16 1 c.format.old.cells)
+  format_layout : IsLayout (event_layout n 16 1 c.format.old.cells)
   format_layout =
       let cells : c.format.old.cells ≡ 8192 + 5300 * n = ap (λ (m : Memory). m.cells) leads.0 ∙ cells_are in
       record {
@@ -389,7 +389,7 @@ module _ (plain : PlainIsDone) (returned : AcknowledgedAreReturned) (n : ℕ) (s
   is_formatted r is = absurd is
 
   sure_volume : IsVolume c.format.new.cells (device_of c.format.new).sure g
-  sure_volume = subst (λ (m : Memory). IsVolume c.format.new.cells (device_of c.format.new).sure (layout_on n 16 1 m.cells))
+  sure_volume = subst (λ (m : Memory). IsVolume c.format.new.cells (device_of c.format.new).sure (event_layout n 16 1 m.cells))
       leads.0 (one_format n c.format.reply c.format.old c.format.new format_turned format_done)
 
   volume_at : (row : List Turn) (s : Memory) → AreInTurn from (c.format ∷ row) s → IsVolume s.cells (device_of s).image g
@@ -407,10 +407,10 @@ module _ (plain : PlainIsDone) (returned : AcknowledgedAreReturned) (n : ℕ) (s
       record { same = writes; below = omega (arith, writes, at_format.left.undisturbed) } in
       let there : IsVolume c.format.new.cells (device_of c.format.new).image g =
       volume_at [] c.format.new (leads.0, leads.1, leads.2, refl) in
-      subst (λ (m : Memory). IsStocked (layout_on n 16 1 m.cells) 0 (device_of c.format.new)) leads.0
+      subst (λ (m : Memory). IsStocked (event_layout n 16 1 m.cells) 0 (device_of c.format.new)) leads.0
       (stocked_first n some most c.format.old c.format.new none_before turned still
       (at_format.plain_turn.settled format_done)
-      (subst (λ (m : Memory). IsVolume c.format.new.cells (device_of c.format.new).image (layout_on n 16 1 m.cells))
+      (subst (λ (m : Memory). IsVolume c.format.new.cells (device_of c.format.new).image (event_layout n 16 1 m.cells))
       (sym leads.0) there))
 
   -- an ingest that was refused

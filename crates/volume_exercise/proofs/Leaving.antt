@@ -16,7 +16,7 @@ use Rattle.worm_memory.specs.declared.mark.Mark.{Mark}
 use Rattle.script_events.specs.declared.event.Event.{Event}
 use Rattle.script_replies.specs.declared.reply.Reply.{Reply}
 use Rattle.hostile_replay.specs.Headline.{AcknowledgedAreReturned, IsNew}
-use Rattle.hostile_replay.specs.Turns.{Turns, layout_on}
+use Rattle.hostile_replay.specs.Turns.{Turns, event_layout}
 use Rattle.hostile_replay.specs.Undisturbed.{IsLeftPlain, IsPlain, PlainIsDone, TurnsAreMarked, events_of}
 use Rattle.hostile_replay.specs.Worlds.{AreInTurn, IsWorld, Turn, acknowledged, acknowledged_by}
 use Rattle.hostile_replay.proofs.Reading.{settled_documents}
@@ -85,10 +85,10 @@ module _ (plain : PlainIsDone) (returned : AcknowledgedAreReturned) (marked : Tu
   unfailed = ap (λ (m : Memory). m.faults) is_new
 
   abbrev g : Layout
-  g = layout_on n 16 1 from.cells
+  g = event_layout n 16 1 from.cells
 
   volume : IsVolume c.format.new.cells (device_of c.format.new).sure g
-  volume = subst (λ (m : Memory). IsVolume c.format.new.cells (device_of c.format.new).sure (layout_on n 16 1 m.cells))
+  volume = subst (λ (m : Memory). IsVolume c.format.new.cells (device_of c.format.new).sure (event_layout n 16 1 m.cells))
       leads.0
       (one_format n c.format.reply c.format.old c.format.new
       (subst (λ (e : Event). Turns e c.format.reply c.format.old c.format.new) c.format_is leads.2) done.0)

@@ -27,7 +27,7 @@ use Rattle.recovery_engine.specs.declared.settling.Ready.{Ready}
 use Rattle.plan_writer.proofs.PutFrom.{volume_2}
 use Rattle.crash_laws.proofs.LookedAt.{looked_ends}
 use Rattle.crash_laws.proofs.WellPlanned as planned
-use Rattle.ingest_engine.specs.Ingesting.{HasNoRoom, HasNoSlot, IngestEnds, IsTaken, IsTooMany, TakesNoSuchStamp}
+use Rattle.ingest_engine.specs.Ingesting.{HasNoRoom, HasNoSlot, IngestEnds, IsIdentifierTaken, IsTooMany, TakesNoSuchStamp}
 use Rattle.ingest_engine.proofs.CrashedIngests.{ready_layout}
 use Rattle.command_laws.specs.Begins.{BeginsSteady}
 use Rattle.command_laws.proofs.HeldAnswers.{stands_among}
@@ -95,7 +95,7 @@ module _ (n k : ℕ) (g : Layout) (s t : DeviceState) (begins : BeginsSteady s t
       let is = horizon_here g.slots (subst (λ (i : Image). IsHorizon g i i g.slots) (same_image h.ready has) there) in
       omega (arith, is, slots, less)
 
-  not_taken : (m : ℕ) → IsTaken id None m s t → ⊥
+  not_taken : (m : ℕ) → IsIdentifierTaken id None m s t → ⊥
   not_taken m h =
       let has = h.settled.settled in
       let taken = h.holds begins.tells in

@@ -27,7 +27,7 @@ use Rattle.ingest_laws.proofs.Filled.{edge_is, old_edge}
 use Rattle.ingest_laws.proofs.Ingests.{next_horizon}
 use Rattle.ingest_laws.proofs.PlanSettled.{plan_is_settled}
 use Rattle.ingest_engine.specs.Ingesting as ingesting
-use Rattle.ingest_engine.specs.Ingesting.{ComesTo, IsIngested, IsPlanFor}
+use Rattle.ingest_engine.specs.Ingesting.{IngestComesTo, IsIngested, IsPlanFor}
 use Rattle.ingest_engine.proofs.CrashedIngests.{ready_layout}
 use Rattle.crash_laws.specs.SettlingSteadiness.{IsSteady}
 use Rattle.crash_laws.proofs.LeftWhole.{held_unmoved, settling_keeps}
@@ -148,7 +148,7 @@ module _ (id body : List ℕ) (old new : DeviceState) (n : ℕ) (device : IsDevi
     not_so : Held new.cells new.image documents → ⊥
     not_so now = not_held old new device device_new begins id None body n more documents held now
 
-    pub one_further : ComesTo id None body old new → IsOneFurther g id body old.image new.image
+    pub one_further : IngestComesTo id None body old new → IsOneFurther g id body old.image new.image
     one_further (ingesting.nothing same) = absurd (not_so (held_unmoved same documents held))
     one_further (ingesting.settling refusal settles) = absurd (not_so
         (subst (λ (k : ℕ). Held k new.image documents) (sym settles.called.cells)

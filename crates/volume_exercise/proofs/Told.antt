@@ -16,7 +16,7 @@ use Rattle.script_events.specs.declared.event.Event.{Event}
 use Rattle.script_events.specs.declared.event.Event.TheVariants as event
 use Rattle.script_replies.specs.declared.reply.Reply.{Reply}
 use Rattle.script_replies.specs.declared.reply.Reply.TheVariants as reply
-use Rattle.hostile_replay.specs.Turns.{Turns, layout_on}
+use Rattle.hostile_replay.specs.Turns.{Turns, event_layout}
 use Rattle.hostile_replay.specs.Undisturbed.{IsDoneReply}
 use Rattle.hostile_replay.specs.Worlds.{AreInTurn, Turn, acknowledged_by}
 use Rattle.volume_exercise.specs.Documents.{body_of, identifier_of}
@@ -233,9 +233,9 @@ reads_rise from (t ∷ turns) to leads read =
 
 -- a format that is done has made a volume
 pub one_format : (n : ℕ) (r : Reply) (old new : Memory) → Turns (format_event n) r old new → IsDoneReply r
-    → IsVolume new.cells (device_of new).sure (layout_on n 16 1 old.cells)
+    → IsVolume new.cells (device_of new).sure (event_layout n 16 1 old.cells)
 one_format n reply.Formatted old new turned done =
-    let g = layout_on n 16 1 old.cells in
+    let g = event_layout n 16 1 old.cells in
     let ends = turned.answers.ends in
     let is = ends.0 in
     record {

@@ -58,8 +58,8 @@ sound_line (r ∷ replies) = sound_line replies
 
 -- the lines: the documents, how many were acknowledged, the matches of single words and of pairs, how many bodies came
 -- back, and what the audit said
-abbrev pub lines_of : ℕ → ℕ → ℕ → ℕ → ℕ → List ℕ → List ℕ
-lines_of documents acknowledged single pairs looked_up sound =
+abbrev pub tally_lines : ℕ → ℕ → ℕ → ℕ → ℕ → List ℕ → List ℕ
+tally_lines documents acknowledged single pairs looked_up sound =
     codes "documents " ++ (decimal documents ++ (codes "\nacknowledged " ++ (decimal acknowledged
     ++ (codes "\nsingle " ++ (decimal single ++ (codes "\npairs " ++ (decimal pairs
     ++ (codes "\nlooked up " ++ (decimal looked_up ++ (codes "\n" ++ sound))))))))))
@@ -67,5 +67,5 @@ lines_of documents acknowledged single pairs looked_up sound =
 -- the lines, counted from the replies to the events of the exercise with n documents
 abbrev pub counted_text : ℕ → List Reply → List ℕ
 counted_text n replies =
-    lines_of n (count_by is_acknowledged (of_ingests n replies)) (sum_by matches_in (of_singles n replies))
+    tally_lines n (count_by is_acknowledged (of_ingests n replies)) (sum_by matches_in (of_singles n replies))
     (sum_by matches_in (of_pairs n replies)) (returned_from 0 (of_look_ups n replies)) (sound_line replies)

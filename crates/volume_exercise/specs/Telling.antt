@@ -9,7 +9,7 @@ use Rattle.std.specs.Str.{bytes_eq}
 use Rattle.volume_meaning.specs.Words.{Matches, words_of}
 use Rattle.volume_meaning.specs.declared.word_rules.WordRule.TheVariants.{Ascii}
 use Rattle.volume_exercise.specs.Documents.{body_of, up_to, word_of}
-use Rattle.volume_exercise.specs.Tallies.{lines_of}
+use Rattle.volume_exercise.specs.Tallies.{tally_lines}
 use Rattle.volume_exercise.specs.declared.limits.TheConstants.{DISTINCT_WORDS}
 
 -- each of the terms is a word of the body
@@ -36,7 +36,7 @@ pair_matches n = sum_by (λ k. documents_with n (pair_terms k)) (up_to (DISTINCT
 
 -- the text of the exercise
 abbrev pub exercise_text : ℕ → List ℕ
-exercise_text n = lines_of n n (single_matches n) (pair_matches n) n (codes "sound\n")
+exercise_text n = tally_lines n n (single_matches n) (pair_matches n) n (codes "sound\n")
 
 -- a body has terms by this test just where each is a word of it
 abbrev pub TermsAreWords : Type 0

@@ -1,7 +1,7 @@
 //! What the replies to the events of the exercise come to.
 ghost use Rattle.std.specs.Prelude.{◌≡◌, ◌+◌, ◌*◌, ◌≤◌, ◌<◌, IfOk, length, string_bytes};
 ghost use Rattle.std.specs.List.{count_by, sum_by};
-ghost use Rattle.volume_exercise.specs.Tallies.{counted_text, first_refusal, is_acknowledged, lines_of, matches_in, returned, returned_from, sound_line};
+ghost use Rattle.volume_exercise.specs.Tallies.{counted_text, first_refusal, is_acknowledged, tally_lines, matches_in, returned, returned_from, sound_line};
 ghost use Rattle.command_line.specs.declared.words.TheConstants.{MAX_DOCUMENTS};
 
 use crate::documents::body;
@@ -57,7 +57,7 @@ pub fn text_of(alloc: Global, documents: u32, replies: &[Reply]) -> Result<Strin
 
 /// The lines of the exercise with so many documents.
 fn lines(alloc: Global, documents: u32, tally: &Tally, sound: &str) -> Result<String, AllocError>
-    ensures { IfOk result (λ text. string_bytes text ≡ lines_of documents tally.now.acknowledged tally.now.single
+    ensures { IfOk result (λ text. string_bytes text ≡ tally_lines documents tally.now.acknowledged tally.now.single
         tally.now.pairs tally.now.looked_up sound.now) }
 {
     let Tally {

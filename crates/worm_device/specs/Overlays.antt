@@ -36,7 +36,7 @@ abbrev pub of_overlay : {V : Type 0} → (V → ViewState) → Overlay V → Vie
 of_overlay seen o = seen_over (seen o.view) o.own.ghost_name o.own.now.planned o.own.now.owners o.fresh
 
 -- nothing is planned or said to be somebody's anew
-pub record PlansNothing (old new : ViewState) : Type 0 where
+pub record PlansNoMore (old new : ViewState) : Type 0 where
   pub image : (cell : ℕ) → new.image cell ≡ old.image cell
   pub planned : (cell : ℕ) → new.planned cell ≡ old.planned cell
   pub owners : (cell : ℕ) → new.owners cell ≡ old.owners cell
@@ -48,9 +48,9 @@ pub record PlansCell (at : ℕ) (value : List ℕ) (owner : Owner) (new : ViewSt
   pub for_whom : new.owners at ≡ Some owner
 
 -- a cell more, or none where there is no memory
-abbrev pub PlanEnds : ℕ → List ℕ → Owner → ViewState → ViewState → Result Unit NoMemory → Type 0
-PlanEnds at value owner old new (Ok done) = PlansCell at value owner new
-PlanEnds at value owner old new (Err none) = PlansNothing old new
+abbrev pub PlanCellEnds : ℕ → List ℕ → Owner → ViewState → ViewState → Result Unit NoMemory → Type 0
+PlanCellEnds at value owner old new (Ok done) = PlansCell at value owner new
+PlanCellEnds at value owner old new (Err none) = PlansNoMore old new
 
 -- Planning one cell: what stands below, and what is planned in other cells, is as it was.
 pub record Plans (at : ℕ) (value : List ℕ) (owner : Owner) (old new : ViewState) (result : Result Unit NoMemory)
@@ -62,4 +62,4 @@ pub record Plans (at : ℕ) (value : List ℕ) (owner : Owner) (old new : ViewSt
   pub loans : new.loans ≡ old.loans
   pub others : (cell : ℕ) → cell ≢ at
       → (new.image cell ≡ old.image cell) × (new.planned cell ≡ old.planned cell) × (new.owners cell ≡ old.owners cell)
-  pub ends : PlanEnds at value owner old new result
+  pub ends : PlanCellEnds at value owner old new result

@@ -5,7 +5,7 @@ use Rattle.std.proofs.lemmas.Bool.{and_right, cases_Bool, or_cases, or_from, or_
 use Rattle.std.proofs.lemmas.Bool.Decides.{nat_tests}
 use Rattle.std.proofs.lemmas.List.Sums.{sum_by-cons}
 use Rattle.worm_device.specs.Counts.{Rose, next_count}
-use Rattle.worm_memory.specs.Plans.{Plan, names, next_step, is_past, is_stopped, is_refused, is_reached, may_stop, must_stop, may_fail, must_fail, failures_reached, changes_from, faults_from, foreign_writes_from, is_due}
+use Rattle.worm_memory.specs.Plans.{CommandPlan, names, next_step, is_past, is_stopped, is_refused, is_reached, may_stop, must_stop, may_fail, must_fail, failures_reached, changes_from, faults_from, foreign_writes_from, is_due}
 use Rattle.worm_memory.specs.declared.mark.Mark.{Mark}
 use Rattle.worm_memory.specs.declared.moment.Moment.{Moment}
 use Rattle.worm_memory.specs.declared.moment.Moment.TheVariants.{Step, Call}
@@ -98,7 +98,7 @@ none_stopped : (stop : Option Moment) → may_stop stop 0 0 ≡ false
 none_stopped None = refl
 none_stopped (Some moment) = and_right (is_past moment 0 0) false refl
 
-module _ (p : Plan) (s c : ℕ) (ordered : s ≤ c) (first : c ≡ 0) where
+module _ (p : CommandPlan) (s c : ℕ) (ordered : s ≤ c) (first : c ≡ 0) where
   no_steps : s ≡ 0
   no_steps = omega (arith, ordered, first)
 
@@ -188,7 +188,7 @@ passed_now false (Some (Step n)) s c is = inl is
 passed_now b (Some (Call n)) s c is = inr (grind (arith, nat_tests))
 
 -- one more call, which fails where it is refused
-module _ (b : Bool) (p : Plan) (s c last faults : ℕ) (ordered : s ≤ c) (fs : s < 2 ^ 64) (fc : c < 2 ^ 64) where
+module _ (b : Bool) (p : CommandPlan) (s c last faults : ℕ) (ordered : s ≤ c) (fs : s < 2 ^ 64) (fc : c < 2 ^ 64) where
   abbrev s' : ℕ
   s' = next_step b s
 

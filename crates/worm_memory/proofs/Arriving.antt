@@ -13,7 +13,7 @@ use Rattle.worm_device.proofs.Elapsing.{called_self, called_then, elapses_of, le
 use Rattle.worm_device.proofs.Images.{extends_self, extends_then, between_wider, unchanged_then}
 use Rattle.worm_memory.specs.Memory.{Memory, device_of, with_call, with_fault, with_foreign, with_read}
 use Rattle.worm_memory.specs.Outcomes.{Outcome, goes_on, fails, foreign_into, after_timed, after_others, after_plan, arrived}
-use Rattle.worm_memory.specs.Plans.{Plan, no_plan, names, is_refused}
+use Rattle.worm_memory.specs.Plans.{CommandPlan, no_plan, names, is_refused}
 use Rattle.worm_memory.specs.Worlds.{blank, world}
 use Rattle.worm_memory.specs.declared.change.Change.TheVariants.{Foreign}
 use Rattle.worm_memory.specs.declared.moment.Timed.{Timed}
@@ -167,7 +167,7 @@ comes_as is_step m room now arrives faults foreign_writes =
 pub comes_unplanned : (is_step : Bool) (m : Memory) (room : ℕ) → m.plan ≡ no_plan
     → arrived is_step m room ≡ goes_on (with_call is_step m) room
 comes_unplanned is_step m room none =
-    ap (λ (plan : Plan). after_plan (is_refused is_step plan m.steps m.calls)
+    ap (λ (plan : CommandPlan). after_plan (is_refused is_step plan m.steps m.calls)
     (after_others is_step plan.foreign (goes_on (with_call is_step m) room))) none
 
 -- what a crash may leave in a call that came so: nothing was made sure before

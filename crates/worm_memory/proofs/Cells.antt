@@ -7,11 +7,11 @@ use Rattle.cell_types.specs.Image.{Image}
 use Rattle.worm_memory.specs.declared.change.Change.{Change}
 use Rattle.worm_memory.specs.declared.change.Change.TheVariants.{Synced}
 use Rattle.worm_memory.specs.Unsure.{unsure_then, unsure_after, unsure_of}
-use Rattle.worm_memory.specs.Worlds.{IsPut, ours, theirs, world, Holds}
+use Rattle.worm_memory.specs.Worlds.{PutsInto, ours, theirs, world, HasBecome}
 use Rattle.worm_memory.proofs.Worlds.{image_is, written_here, written_elsewhere, put_image}
 
 -- what the cells hold after a put: in the cell itself
-holds_here : {at : ℕ} {value : List ℕ} {change : Change} → IsPut at value change
+holds_here : {at : ℕ} {value : List ℕ} {change : Change} → PutsInto at value change
     → (cells : List (Option (List ℕ))) (changes : List Change)
     → at < length cells → (world changes).image at ≡ None
     → get_or (set cells at (Some value)) at None ≡ (world (changes ++ change ∷ [])).image at
@@ -22,10 +22,10 @@ holds_here {at} {value} {change} put cells changes within free =
     ∙ sym (image_is changes change at)
 
 -- and in each
-pub holds_put : {at : ℕ} {value : List ℕ} {change : Change} → IsPut at value change
+pub holds_put : {at : ℕ} {value : List ℕ} {change : Change} → PutsInto at value change
     → (cells : List (Option (List ℕ))) (changes : List Change)
     → at < length cells → (world changes).image at ≡ None
-    → Holds cells (world changes).image → Holds (set cells at (Some value)) (world (changes ++ change ∷ [])).image
+    → HasBecome cells (world changes).image → HasBecome (set cells at (Some value)) (world (changes ++ change ∷ [])).image
 holds_put {at} {value} {change} put cells changes within free holds = λ cell.
     let new = (world (changes ++ change ∷ [])).image in
     let elsewhere = written_elsewhere (world changes).image at value cell in
@@ -38,7 +38,7 @@ holds_put {at} {value} {change} put cells changes within free holds = λ cell.
 
 -- and after a sync
 pub holds_synced : (cells : List (Option (List ℕ))) (changes : List Change)
-    → Holds cells (world changes).image → Holds cells (world (changes ++ Synced ∷ [])).image
+    → HasBecome cells (world changes).image → HasBecome cells (world (changes ++ Synced ∷ [])).image
 holds_synced cells changes holds = λ cell. holds cell ∙ sym (image_is changes Synced cell)
 
 -- one more change in the list of unsure cells
@@ -47,7 +47,7 @@ unsure_append : (unsure : List ℕ) (changes : List Change) (change : Change)
 unsure_append unsure [] change = refl
 unsure_append unsure (first ∷ changes) change = unsure_append (unsure_then unsure first) changes change
 
-pub unsure_put : {at : ℕ} {value : List ℕ} {change : Change} → IsPut at value change → (changes : List Change)
+pub unsure_put : {at : ℕ} {value : List ℕ} {change : Change} → PutsInto at value change → (changes : List Change)
     → unsure_of (changes ++ change ∷ []) ≡ unsure_of changes ++ at ∷ []
 unsure_put {at} {value} {change} ours changes = unsure_append [] changes change
 unsure_put {at} {value} {change} theirs changes = unsure_append [] changes change

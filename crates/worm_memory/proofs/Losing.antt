@@ -8,11 +8,11 @@ use Rattle.std.proofs.lemmas.List.{get_or-set_same, get_or-set_other}
 use Rattle.worm_device.specs.State.{Instant, IsDevice}
 use Rattle.worm_memory.specs.declared.change.Change.{Change}
 use Rattle.worm_memory.specs.declared.change.Change.TheVariants.{Lost}
-use Rattle.worm_memory.specs.Losses.{kept_image, crash_cells, crash_changes, AllElseSure, AreApart}
+use Rattle.worm_memory.specs.Losses.{kept_image, crash_cells, crash_changes, AllElseSure, AreDistinct}
 use Rattle.worm_memory.specs.Memory.{Memory, device_of}
 use Rattle.worm_memory.specs.Outcomes.{with_crash}
 use Rattle.worm_memory.specs.Unsure.{is_among, unsure_then, unsure_after, unsure_of}
-use Rattle.worm_memory.specs.Worlds.{after_change, after_changes, blank, world, AreChanges, Holds}
+use Rattle.worm_memory.specs.Worlds.{after_change, after_changes, blank, world, AreChanges, HasBecome}
 use Rattle.worm_memory.proofs.Unsure.{IsRight}
 use Rattle.worm_memory.proofs.Worlds.{after_row, changes_append}
 
@@ -87,9 +87,9 @@ module _ (keep : List ℕ) where
   crash_sure (at ∷ unsure) now cell = one_sure at unsure now cell (is_among at keep) (crash_sure unsure)
 
 -- what a crash leaves in a device's cells, where these are not sure
-lost_there : (cells : List (Option (List ℕ))) (now : Instant) (at : ℕ) → Holds cells now.image → at < length cells
+lost_there : (cells : List (Option (List ℕ))) (now : Instant) (at : ℕ) → HasBecome cells now.image → at < length cells
     → now.sure at ≡ None
-    → Holds (set cells at None) (after_change now (Lost at)).image
+    → HasBecome (set cells at None) (after_change now (Lost at)).image
 lost_there cells now at holds inside gone = λ cell. ⊎_elim
     (λ here. subst (λ n. get_or (set cells at None) n None ≡ (if n == at then now.sure n else now.image n)) (sym here.1)
     (get_or-set_same cells at None None inside ∙ sym gone ∙ sym (cond-true (at == at) (now.sure at) (now.image at)
@@ -109,14 +109,14 @@ among_first : (at : ℕ) (unsure : List ℕ) → is_among at (at ∷ unsure) ≡
 among_first at unsure = grind (arith, nat_tests)
 
 abbrev Leaves : List ℕ → List ℕ → Type 0
-Leaves keep unsure = (cells : List (Option (List ℕ))) (now : Instant) → Holds cells now.image
+Leaves keep unsure = (cells : List (Option (List ℕ))) (now : Instant) → HasBecome cells now.image
     → AreBlank unsure cells now
-    → Holds (crash_cells keep unsure cells) (after_changes now (crash_changes keep unsure)).image
+    → HasBecome (crash_cells keep unsure cells) (after_changes now (crash_changes keep unsure)).image
 
 leaves_one : (keep unsure : List ℕ) (at : ℕ) (b : Bool) → Leaves keep unsure
     → (cells : List (Option (List ℕ))) (now : Instant)
-    → Holds cells now.image → AreBlank (at ∷ unsure) cells now
-    → Holds (crash_cells keep unsure (if b then cells else set cells at None))
+    → HasBecome cells now.image → AreBlank (at ∷ unsure) cells now
+    → HasBecome (crash_cells keep unsure (if b then cells else set cells at None))
     (after_changes now (if b then crash_changes keep unsure else Lost at ∷ crash_changes keep unsure)).image
 leaves_one keep unsure at true leaves cells now holds gone =
     leaves cells now holds (λ cell among. gone cell (among_rest cell at unsure among))
@@ -151,7 +151,7 @@ changes_one cells at unsure more true all now new are = all now (λ cell among. 
 changes_one cells at unsure more false all now new are =
     (are at (among_first at unsure), all (after_change now (Lost at)) (still_unsure unsure now at new are))
 
-pub crash_are_changes : (cells : ℕ) (keep unsure : List ℕ) → AreApart unsure → (now : Instant) → AreUnsure unsure now
+pub crash_are_changes : (cells : ℕ) (keep unsure : List ℕ) → AreDistinct unsure → (now : Instant) → AreUnsure unsure now
     → AreChanges cells now (crash_changes keep unsure)
 crash_are_changes cells keep [] apart now are = tt
 crash_are_changes cells keep (at ∷ unsure) apart now are =

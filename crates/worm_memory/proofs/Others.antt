@@ -5,7 +5,7 @@ use Rattle.std.proofs.lemmas.Bool.{cond-true}
 use Rattle.std.proofs.lemmas.Option.{none-some, same_Some}
 use Rattle.worm_memory.specs.Memory.{Memory}
 use Rattle.worm_memory.specs.Outcomes.{Outcome, goes_on, after_others, after_timed}
-use Rattle.worm_memory.specs.Plans.{AreInside}
+use Rattle.worm_memory.specs.Plans.{AreWritesInside}
 use Rattle.worm_memory.specs.declared.moment.Timed.{Timed}
 
 -- the next one
@@ -51,8 +51,8 @@ past_others is_step planned place now here =
     (ap (λ n. drop n planned) (add-one place) ∙ nothing_next planned place here ∙ sym (nothing_left planned place here))
 
 -- what is planned lies inside the device, and so does one more
-pub inside_append : (cells : ℕ) (planned : List Timed) (timed : Timed) → AreInside cells planned → timed.at < cells
-    → AreInside cells (planned ++ timed ∷ [])
+pub inside_append : (cells : ℕ) (planned : List Timed) (timed : Timed) → AreWritesInside cells planned → timed.at < cells
+    → AreWritesInside cells (planned ++ timed ∷ [])
 inside_append cells [] timed inside within zero found here =
     subst (λ (t : Timed). t.at < cells) (same_Some timed found here) within
 inside_append cells [] timed inside within (suc place) found here = absurd (none-some found here)
@@ -60,8 +60,8 @@ inside_append cells (first ∷ rest) timed inside within zero found here = insid
 inside_append cells (first ∷ rest) timed inside within (suc place) found here =
     inside_append cells rest timed (λ p t is. inside (suc p) t is) within place found here
 
-pub inside_pushed : (cells : ℕ) (planned : List Timed) (timed : Timed) (b : Bool) → AreInside cells planned
+pub inside_pushed : (cells : ℕ) (planned : List Timed) (timed : Timed) (b : Bool) → AreWritesInside cells planned
     → timed.at < cells
-    → AreInside cells (if b then planned ++ timed ∷ [] else planned)
+    → AreWritesInside cells (if b then planned ++ timed ∷ [] else planned)
 inside_pushed cells planned timed true inside within = inside_append cells planned timed inside within
 inside_pushed cells planned timed false inside within = inside

@@ -4,7 +4,7 @@ use Rattle.std.proofs.lemmas.Bool.{and_parts, eqb-true}
 use Rattle.worm_device.specs.Counts.{Rose}
 use Rattle.worm_memory.specs.Device.{memory_of}
 use Rattle.worm_memory.specs.Memory.{is_early}
-use Rattle.worm_memory.specs.Plans.{Plan, failures_reached, last_faults, last_foreign_writes, may_stop, must_fail, plan_of}
+use Rattle.worm_memory.specs.Plans.{CommandPlan, failures_reached, last_faults, last_foreign_writes, may_stop, must_fail, plan_of}
 use Rattle.worm_memory.specs.declared.memory_device.MemoryDevice.{MemoryDevice}
 use Rattle.worm_memory.proofs.Accounts.{none_due, none_may_yet, none_yet}
 
@@ -28,7 +28,7 @@ yet_to_call d test told is =
     }
 
 -- so it is with another plan too
-module _ (d : MemoryDevice) (yet : HasYetToCall d) (p : Plan) where
+module _ (d : MemoryDevice) (yet : HasYetToCall d) (p : CommandPlan) where
   pub most_yet : may_stop p.stop d.schedule.steps d.schedule.calls ≡ false → d.schedule.calls < 2 ^ 64 - 1
       → d.faults ≤ last_faults d.marks.items + failures_reached p d.schedule.steps d.schedule.calls
   most_yet may few = omega (arith, yet.faults)

@@ -7,7 +7,7 @@ use Rattle.std.proofs.lemmas.List.{append-nil, append_assoc}
 use Rattle.worm_device.specs.Calls.{Called}
 use Rattle.worm_memory.specs.Device.{ACommandHasRoom, ACrashHasRoom, APlanIsKept, TheCountIsRecorded, memory_of, state_of}
 use Rattle.worm_memory.specs.Memory.{BeginningsTell, TheRecordTells}
-use Rattle.worm_memory.specs.Plans.{Plan, begun_rows, by_plan_rows, fail_row, foreign_row, mark_row, stop_rows}
+use Rattle.worm_memory.specs.Plans.{CommandPlan, begun_rows, by_plan_rows, fail_row, foreign_row, mark_row, stop_rows}
 use Rattle.worm_memory.specs.Worlds.{world}
 use Rattle.worm_memory.specs.declared.mark.Mark.{Mark}
 use Rattle.worm_memory.specs.declared.memory_device.MemoryDevice.{MemoryDevice}
@@ -50,7 +50,7 @@ collect_none read write told [] = refl
 collect_none read write told (x ∷ xs) =
     ap (λ l. l ++ collect read (map write xs)) (told x) ∙ collect_none read write told xs
 
-five : {A : Type 0} (read : List ℕ → List A) (marks : List Mark) (plan : Plan) (by_plan : Bool) (a b c d e : List A)
+five : {A : Type 0} (read : List ℕ → List A) (marks : List Mark) (plan : CommandPlan) (by_plan : Bool) (a b c d e : List A)
     → collect read (map mark_row marks) ≡ a → collect read (map fail_row plan.fails) ≡ b
     → collect read (stop_rows plan.stop) ≡ c → collect read (map foreign_row plan.foreign) ≡ d
     → collect read (by_plan_rows by_plan) ≡ e
@@ -141,7 +141,7 @@ read_by_plan : (by_plan : Bool) → collect by_plan_in (by_plan_rows by_plan) �
 read_by_plan false = refl
 read_by_plan true = refl
 
-module _ (marks : List Mark) (plan : Plan) (by_plan : Bool) where
+module _ (marks : List Mark) (plan : CommandPlan) (by_plan : Bool) where
   marks_told : collect mark_in (begun_rows marks plan by_plan) ≡ marks
   marks_told = five mark_in marks plan by_plan marks [] [] [] []
       (collect_all mark_in mark_row (λ m. refl) marks)
@@ -219,10 +219,10 @@ one_test false true same = absurd (let e : [] ≡ true ∷ [] = same in cc)
 one_test true false same = absurd (let e : true ∷ [] ≡ [] = same in cc)
 one_test true true same = refl
 
-abbrev plan_from : List Moment → Option Moment → List Timed → Plan
+abbrev plan_from : List Moment → Option Moment → List Timed → CommandPlan
 plan_from fails stop foreign = record { fails = fails; stop = stop; foreign = foreign }
 
-one_plan : (p q : Plan) → p.fails ≡ q.fails → p.stop ≡ q.stop → p.foreign ≡ q.foreign → p ≡ q
+one_plan : (p q : CommandPlan) → p.fails ≡ q.fails → p.stop ≡ q.stop → p.foreign ≡ q.foreign → p ≡ q
 one_plan p q fails stop foreign =
     ap (λ l. plan_from l p.stop p.foreign) fails ∙ ap (λ o. plan_from q.fails o p.foreign) stop
     ∙ ap (λ l. plan_from q.fails q.stop l) foreign

@@ -8,7 +8,7 @@ use Rattle.worm_device.specs.State.{Instant}
 use Rattle.worm_device.proofs.Images.{extends_self, extends_then}
 use Rattle.worm_memory.specs.declared.change.Change.{Change}
 use Rattle.worm_memory.specs.declared.change.Change.TheVariants.{Wrote, Foreign, Synced, Lost, Crashed}
-use Rattle.worm_memory.specs.Losses.{AreApart}
+use Rattle.worm_memory.specs.Losses.{AreDistinct}
 use Rattle.worm_memory.specs.Proper.{kept}
 use Rattle.worm_memory.specs.Unsure.{is_among, without, unsure_after, unsure_of}
 use Rattle.worm_memory.specs.Worlds.{kept_or, written, fallen, after_change, after_changes, blank, world, AreChanges, IsAllSure}
@@ -37,19 +37,19 @@ among_without n at [] = grind (arith, nat_tests)
 among_without n at (m ∷ unsure) = let rest = among_without n at unsure in grind (arith, nat_tests)
 
 -- each is there once still
-apart_append : (at : ℕ) (unsure : List ℕ) → AreApart unsure → is_among at unsure ≡ false → AreApart (unsure ++ at ∷ [])
+apart_append : (at : ℕ) (unsure : List ℕ) → AreDistinct unsure → is_among at unsure ≡ false → AreDistinct (unsure ++ at ∷ [])
 apart_append at [] apart new = (refl, tt)
 apart_append at (n ∷ unsure) apart new =
     let first = apart.0 in
     let more = among_append n at unsure in
     (grind (arith, nat_tests), apart_append at unsure apart.1 (grind (arith, nat_tests)))
 
-apart_cons : (b : Bool) (n : ℕ) (rest : List ℕ) → (b ≡ false → is_among n rest ≡ false) → AreApart rest
-    → AreApart (if b then rest else n ∷ rest)
+apart_cons : (b : Bool) (n : ℕ) (rest : List ℕ) → (b ≡ false → is_among n rest ≡ false) → AreDistinct rest
+    → AreDistinct (if b then rest else n ∷ rest)
 apart_cons true n rest new apart = apart
 apart_cons false n rest new apart = (new refl, apart)
 
-apart_without : (at : ℕ) (unsure : List ℕ) → AreApart unsure → AreApart (without at unsure)
+apart_without : (at : ℕ) (unsure : List ℕ) → AreDistinct unsure → AreDistinct (without at unsure)
 apart_without at [] apart = tt
 apart_without at (n ∷ unsure) apart =
     let first = apart.0 in
@@ -62,7 +62,7 @@ pub record IsRight (now : Instant) (unsure : List ℕ) : Type 0 where
   pub else_sure : (cell : ℕ) → is_among cell unsure ≡ false → now.image cell ≡ now.sure cell
   pub not_sure : (cell : ℕ) → is_among cell unsure ≡ true → (value : List ℕ) × (now.image cell ≡ Some value)
       × (now.sure cell ≡ None)
-  pub apart : AreApart unsure
+  pub apart : AreDistinct unsure
 
 -- where all is sure
 right_all : (image : Image) → IsRight (record { image = image; sure = image }) []

@@ -9,7 +9,7 @@ use Rattle.worm_memory.specs.declared.change.Change.{Change}
 use Rattle.worm_memory.specs.declared.change.Change.TheVariants.{Wrote, Foreign, Synced, Lost, Crashed}
 use Rattle.worm_memory.specs.Proper.{kept}
 use Rattle.cell_types.specs.Bytes.{IsCell}
-use Rattle.worm_memory.specs.Worlds.{written, IsPut, ours, theirs, after_change, after_changes, blank, world, AreChanges}
+use Rattle.worm_memory.specs.Worlds.{written, PutsInto, ours, theirs, after_change, after_changes, blank, world, AreChanges}
 
 -- the cell that was written holds the value, if it was blank
 pub written_here : (image : Image) (at : ℕ) (value : List ℕ) → image at ≡ None
@@ -89,18 +89,18 @@ blank_below None high keeps free = refl
 blank_below (Some value) high keeps free = absurd (none-some value (sym free ∙ keeps value refl))
 
 -- what a put makes of an image, and that it makes nothing sure
-pub put_image : {at : ℕ} {value : List ℕ} {change : Change} → IsPut at value change → (now : Instant)
+pub put_image : {at : ℕ} {value : List ℕ} {change : Change} → PutsInto at value change → (now : Instant)
     → (after_change now change).image ≡ written now.image at value
 put_image ours now = refl
 put_image theirs now = refl
 
-put_sure : {at : ℕ} {value : List ℕ} {change : Change} → IsPut at value change → (now : Instant)
+put_sure : {at : ℕ} {value : List ℕ} {change : Change} → PutsInto at value change → (now : Instant)
     → (after_change now change).sure ≡ now.sure
 put_sure ours now = refl
 put_sure theirs now = refl
 
 -- a put is a change where its cell was blank and its value is a written cell's
-pub put_is_change : {at : ℕ} {value : List ℕ} {change : Change} → IsPut at value change → (cells : ℕ) (now : Instant)
+pub put_is_change : {at : ℕ} {value : List ℕ} {change : Change} → PutsInto at value change → (cells : ℕ) (now : Instant)
     → at < cells → now.image at ≡ None → IsCell value → AreChanges cells now (change ∷ [])
 put_is_change ours cells now inside free is_cell = (inside, free, is_cell, tt)
 put_is_change theirs cells now inside free is_cell = (inside, free, is_cell, tt)

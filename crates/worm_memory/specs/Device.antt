@@ -37,8 +37,8 @@ abbrev pub room_of : MemoryDevice → ℕ
 room_of device = device.spare
 
 -- it has room for the mark of one more command
-abbrev pub IsReady : MemoryDevice → Type 0
-IsReady device = vec_len device.marks < vec_capacity device.marks
+abbrev pub HasMarkRoom : MemoryDevice → Type 0
+HasMarkRoom device = vec_len device.marks < vec_capacity device.marks
 
 -- what a device is as a device
 abbrev pub state_of : MemoryDevice → DeviceState
@@ -57,8 +57,8 @@ abbrev pub Records : Change → MemoryDevice → MemoryDevice → Type 0
 Records change old new = (memory_of new ≡ with_change (memory_of old) change) × (room_of new + 1 ≡ room_of old)
 
 -- one more write is in the record, and in the count if it is somebody else's; nothing else but the room has changed
-abbrev pub Puts : Change → MemoryDevice → MemoryDevice → Type 0
-Puts change old new = (memory_of new ≡ with_put (memory_of old) change) × (room_of new + 1 ≡ room_of old)
+abbrev pub RecordsPut : Change → MemoryDevice → MemoryDevice → Type 0
+RecordsPut change old new = (memory_of new ≡ with_put (memory_of old) change) × (room_of new + 1 ≡ room_of old)
 
 -- one more fault is counted, and nothing else has changed
 abbrev pub CountsFault : MemoryDevice → MemoryDevice → Type 0

@@ -43,13 +43,13 @@ crash_cells keep (at ∷ unsure) cells =
     crash_cells keep unsure (if is_among at keep then cells else slice_set cells at None)
 
 -- each of these numbers is there once
-abbrev pub AreApart : List ℕ → Type 0
-AreApart [] = ⊤
-AreApart (n ∷ ns) = (is_among n ns ≡ false) × AreApart ns
+abbrev pub AreDistinct : List ℕ → Type 0
+AreDistinct [] = ⊤
+AreDistinct (n ∷ ns) = (is_among n ns ≡ false) × AreDistinct ns
 
 -- the cells of `unsure_of` are those that are written and not sure, each once
 abbrev pub UnsureCells : Type 0
 UnsureCells =
-    (cells : ℕ) (changes : List Change) → AreChanges cells blank changes → AreApart (unsure_of changes)
+    (cells : ℕ) (changes : List Change) → AreChanges cells blank changes → AreDistinct (unsure_of changes)
     × ((cell : ℕ) → (is_among cell (unsure_of changes) ≡ true)
     ↔ ((value : List ℕ) × ((world changes).image cell ≡ Some value) × ((world changes).sure cell ≡ None)))

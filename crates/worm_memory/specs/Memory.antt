@@ -5,7 +5,7 @@ use Rattle.std.specs.List.{list_all}
 use Rattle.worm_device.specs.Counts.{Rose, next_count}
 use Rattle.worm_device.specs.Calls.{Remembers}
 use Rattle.worm_device.specs.State.{DeviceState}
-use Rattle.worm_memory.specs.Plans.{Plan, no_plan, next_step, begun_rows, failures_reached, stands_if_reached, is_called_for, last_changes, last_faults, last_foreign_writes, may_be_written, may_fail, may_stop, must_fail, writes_reached}
+use Rattle.worm_memory.specs.Plans.{CommandPlan, no_plan, next_step, begun_rows, failures_reached, stands_if_reached, is_called_for, last_changes, last_faults, last_foreign_writes, may_be_written, may_fail, may_stop, must_fail, writes_reached}
 use Rattle.worm_memory.specs.Worlds.{world}
 use Rattle.worm_memory.specs.declared.change.Change.{Change}
 use Rattle.worm_memory.specs.declared.change.Change.TheVariants.{Wrote, Foreign, Synced, Lost, Crashed}
@@ -26,7 +26,7 @@ pub record Memory : Type 0 where
   -- how many calls: reads, writes and syncs
   pub calls : ℕ
   -- what is planned for the present command
-  pub plan : Plan
+  pub plan : CommandPlan
   -- how many of its calls have failed
   pub faults : ℕ
   -- how many reads it was asked for
@@ -121,7 +121,7 @@ abbrev pub is_early : Memory → Bool
 is_early m = m.by_plan && (m.calls == 0)
 
 -- another plan for the present command
-abbrev pub with_plan : Memory → Plan → Memory
+abbrev pub with_plan : Memory → CommandPlan → Memory
 with_plan m plan = record m { plan = plan; by_plan = is_early m }
 
 -- one more moment that fails

@@ -13,7 +13,7 @@ use Rattle.worm_memory.specs.declared.moment.Timed.{Timed}
 use Rattle.worm_memory.specs.declared.schedule.Schedule.{Schedule}
 
 -- what is planned for the present command
-pub record Plan : Type 0 where
+pub record CommandPlan : Type 0 where
   -- the moments whose calls fail
   pub fails : List Moment
   -- the moment after which each call fails
@@ -21,7 +21,7 @@ pub record Plan : Type 0 where
   -- what others write before which calls, in the order in which it was planned
   pub foreign : List Timed
 
-abbrev pub plan_of : Schedule → Plan
+abbrev pub plan_of : Schedule → CommandPlan
 plan_of schedule = record {
   fails = schedule.fails.items;
   stop = schedule.stop;
@@ -29,7 +29,7 @@ plan_of schedule = record {
 }
 
 -- nothing is planned
-abbrev pub no_plan : Plan
+abbrev pub no_plan : CommandPlan
 no_plan = record { fails = []; stop = None; foreign = [] }
 
 -- the number of steps once one more call has come, which is a step or not
@@ -53,7 +53,7 @@ is_stopped None steps calls = false
 is_stopped (Some moment) steps calls = is_past moment steps calls
 
 -- the plan makes the next call fail, where there were so many steps and calls before it
-abbrev pub is_refused : Bool → Plan → ℕ → ℕ → Bool
+abbrev pub is_refused : Bool → CommandPlan → ℕ → ℕ → Bool
 is_refused is_step plan steps calls =
     is_stopped plan.stop steps calls
     || list_any (λ moment. names moment is_step (next_step is_step steps) (next_count calls)) plan.fails
@@ -75,15 +75,15 @@ must_stop (Some (Step number)) steps calls = nat_le (number + 1) steps
 must_stop (Some (Call number)) steps calls = nat_le (number + 1) calls
 
 -- some call of a command of so many steps and calls may have failed by the plan
-abbrev pub may_fail : Plan → ℕ → ℕ → Bool
+abbrev pub may_fail : CommandPlan → ℕ → ℕ → Bool
 may_fail plan steps calls = may_stop plan.stop steps calls || list_any (is_reached steps calls) plan.fails
 
 -- some call did
-abbrev pub must_fail : Plan → ℕ → ℕ → Bool
+abbrev pub must_fail : CommandPlan → ℕ → ℕ → Bool
 must_fail plan steps calls = must_stop plan.stop steps calls || list_any (is_reached steps calls) plan.fails
 
 -- how many moments that fail a command of so many steps and calls came to
-abbrev pub failures_reached : Plan → ℕ → ℕ → ℕ
+abbrev pub failures_reached : CommandPlan → ℕ → ℕ → ℕ
 failures_reached plan steps calls = count_by (is_reached steps calls) plan.fails
 
 -- the moment of a planned foreign write was reached
@@ -91,11 +91,11 @@ abbrev pub is_due : ℕ → ℕ → Timed → Bool
 is_due steps calls timed = is_reached steps calls timed.before
 
 -- somebody else may have written by the plan, in a command of so many steps and calls
-abbrev pub may_be_written : Plan → ℕ → ℕ → Bool
+abbrev pub may_be_written : CommandPlan → ℕ → ℕ → Bool
 may_be_written plan steps calls = list_any (is_due steps calls) plan.foreign
 
 -- how many planned foreign writes such a command came to
-abbrev pub writes_reached : Plan → ℕ → ℕ → ℕ
+abbrev pub writes_reached : CommandPlan → ℕ → ℕ → ℕ
 writes_reached plan steps calls = count_by (is_due steps calls) plan.foreign
 
 -- how many calls had failed as the present command began
@@ -141,8 +141,8 @@ stands_if_reached steps calls image timed =
     if is_reached steps calls timed.before then is_some (image timed.at) else true
 
 -- each of these foreign writes is of a cell of the device
-abbrev pub AreInside : ℕ → List Timed → Type 0
-AreInside cells planned = (place : ℕ) (timed : Timed) → slice_get planned place ≡ Some timed → timed.at < cells
+abbrev pub AreWritesInside : ℕ → List Timed → Type 0
+AreWritesInside cells planned = (place : ℕ) (timed : Timed) → slice_get planned place ≡ Some timed → timed.at < cells
 
 -- A moment as two numbers, and what a device keeps from a command's beginning on as rows of numbers: of each mark a
 -- row that begins with 0, of each moment that fails one that begins with 1, of the stop one that begins with 2, of each
@@ -169,7 +169,7 @@ abbrev pub by_plan_rows : Bool → List (List ℕ)
 by_plan_rows false = []
 by_plan_rows true = (4 ∷ []) ∷ []
 
-abbrev pub begun_rows : List Mark → Plan → Bool → List (List ℕ)
+abbrev pub begun_rows : List Mark → CommandPlan → Bool → List (List ℕ)
 begun_rows marks plan by_plan =
     map mark_row marks ++ map fail_row plan.fails ++ stop_rows plan.stop ++ map foreign_row plan.foreign
     ++ by_plan_rows by_plan

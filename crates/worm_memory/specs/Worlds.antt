@@ -30,9 +30,9 @@ after_change now (Lost at) = record { image = fallen now.image now.sure at; sure
 after_change now Crashed = record { image = now.image; sure = now.image }
 
 -- the change puts this value into this cell, whoever writes
-pub data IsPut (at : ℕ) (value : List ℕ) : Change → Type 0 where
-  ours : IsPut at value (Wrote at value)
-  theirs : IsPut at value (Foreign at value)
+pub data PutsInto (at : ℕ) (value : List ℕ) : Change → Type 0 where
+  ours : PutsInto at value (Wrote at value)
+  theirs : PutsInto at value (Foreign at value)
 
 -- what a row of changes makes of it
 abbrev pub after_changes : Instant → List Change → Instant
@@ -76,8 +76,8 @@ AreChanges cells now (Lost at ∷ changes) =
 AreChanges cells now (Crashed ∷ changes) = AreChanges cells (after_change now Crashed) changes
 
 -- a device of blank cells has become this one: each cell holds what the image says
-abbrev pub Holds : List (Option (List ℕ)) → Image → Type 0
-Holds cells image = (cell : ℕ) → slice_index_or cells cell None ≡ image cell
+abbrev pub HasBecome : List (Option (List ℕ)) → Image → Type 0
+HasBecome cells image = (cell : ℕ) → slice_index_or cells cell None ≡ image cell
 
 -- there is one proof of each, so that a device can carry it
 pub IsCell-prop : (value : List ℕ) → IsProp (IsCell value)

@@ -1,7 +1,7 @@
 //! Beginning a command on a device in memory, and planning for it: what fails, where it stops, what others write.
 ghost use Rattle.std.specs.Prelude.{◌*◌, ◌≡◌, ◌≤◌, ◌<◌, ◌+◌, if◌then◌else◌, is_ok, vec_len};
 ghost use Rattle.worm_memory.specs.Memory.{is_ample, is_early, with_begin, with_failure, with_planned, with_stop};
-ghost use Rattle.worm_memory.specs.Device.{memory_of, room_of, IsReady};
+ghost use Rattle.worm_memory.specs.Device.{memory_of, room_of, HasMarkRoom};
 
 use crate::moment::{Moment, Timed};
 use crate::{Mark, MemoryDevice};
@@ -14,7 +14,7 @@ impl MemoryDevice {
     /// Where the record has room for two changes of each cell, the command goes by its plan: no call of it finds too
     /// little room, and faults and foreign writes are those that are planned before its first call.
     pub fn begin(&mut self)
-        requires ready { IsReady self.old }
+        requires ready { HasMarkRoom self.old }
         ensures begins { memory_of self.new
             ≡ with_begin (is_ample (memory_of self.old).cells (room_of self.old)) (memory_of self.old) }
         ensures room { room_of self.new ≡ room_of self.old }

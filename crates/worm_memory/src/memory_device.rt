@@ -5,9 +5,9 @@ ghost use Rattle.std.proofs.Props.{props};
 ghost use Rattle.std.specs.Prelude.{◌*◌, ◌^◌, ◌-◌, drop, true, false};
 ghost use Rattle.std.specs.List.{list_all};
 ghost use Rattle.worm_device.specs.Counts.{Rose};
-ghost use Rattle.worm_memory.specs.Plans.{AreInside, failures_reached, stands_if_reached, is_called_for, last_changes, last_faults, last_foreign_writes, may_be_written, may_fail, may_stop, must_fail, plan_of, writes_reached};
+ghost use Rattle.worm_memory.specs.Plans.{AreWritesInside, failures_reached, stands_if_reached, is_called_for, last_changes, last_faults, last_foreign_writes, may_be_written, may_fail, may_stop, must_fail, plan_of, writes_reached};
 ghost use Rattle.worm_memory.specs.Unsure.{blanks, unsure_of};
-ghost use Rattle.worm_memory.specs.Worlds.{blank, foreign_writes_in, world, AreChanges, AreChanges-prop, Holds, IsAllSure, IsPut};
+ghost use Rattle.worm_memory.specs.Worlds.{blank, foreign_writes_in, world, AreChanges, AreChanges-prop, HasBecome, IsAllSure, PutsInto};
 
 use crate::schedule::Schedule;
 use crate::{Change, Mark};
@@ -38,11 +38,11 @@ pub struct MemoryDevice {
     ghost some_cells: { 1 ≤ vec_len cells },
     ghost most_cells: { vec_len cells ≤ MAX_CELLS },
     ghost are_changes: { AreChanges (vec_len cells) blank changes.items } by { AreChanges-prop (vec_len cells) blank changes.items },
-    ghost holds: { Holds cells.items (world changes.items).image } by { Prim.hlevel props },
+    ghost holds: { HasBecome cells.items (world changes.items).image } by { Prim.hlevel props },
     ghost are_unsure: { unsure.items ≡ unsure_of changes.items } by { Prim.hlevel props },
     ghost changes_fit: { vec_len changes + spare ≤ vec_capacity changes },
     ghost unsure_fit: { vec_len unsure + spare ≤ vec_capacity unsure },
-    ghost planned_inside: { AreInside (vec_len cells) schedule.foreign.items } by { Prim.hlevel props },
+    ghost planned_inside: { AreWritesInside (vec_len cells) schedule.foreign.items } by { Prim.hlevel props },
     ghost few: { blanks cells.items + vec_len unsure ≤ vec_len cells },
     ghost roomy: { ample ≡ true → 2 * blanks cells.items + vec_len unsure ≤ spare } by { Prim.hlevel props },
     ghost steps_fit: { schedule.steps ≤ schedule.calls },
@@ -75,7 +75,7 @@ impl MemoryDevice {
     ghost use Rattle.worm_memory.specs.Plans.{no_plan};
     ghost use Rattle.worm_memory.specs.Outcomes.{recorded};
     ghost use Rattle.worm_memory.specs.declared.change.Change.TheVariants.{Synced, Wrote};
-    ghost use Rattle.worm_memory.specs.Device.{memory_of, outcome, room_of, state_of, IsReady, Records, Puts, CountsFault};
+    ghost use Rattle.worm_memory.specs.Device.{memory_of, outcome, room_of, state_of, HasMarkRoom, Records, RecordsPut, CountsFault};
     ghost use Rattle.worm_memory.specs.Device.{ForeignEnds, ForeignWrites};
 
     /// A device of so many blank cells, 1 to 2,147,483,648. Its record has no room yet, and nothing is planned.
@@ -119,10 +119,10 @@ impl MemoryDevice {
     /// where there is no memory, the mark alone may have got its room.
     pub fn reserve(&mut self, changes: u32) -> Result<(), NoMemory>
         ensures room { OnOk result (changes ≤ room_of self.new) }
-        ensures ready { OnOk result (IsReady self.new) }
+        ensures ready { OnOk result (HasMarkRoom self.new) }
         ensures same { memory_of self.new ≡ memory_of self.old }
         ensures keeps { room_of self.old ≤ room_of self.new }
-        ensures enough { changes ≤ room_of self.old → IsReady self.old → IsOk result }
+        ensures enough { changes ≤ room_of self.old → HasMarkRoom self.old → IsOk result }
         ensures err { OnErr result (room_of self.new ≡ room_of self.old) }
     {
         self.reserve_mark()?;
@@ -141,7 +141,7 @@ impl MemoryDevice {
         ensures fits { OnOk result (vec_len self.new.changes + more ≤ vec_capacity self.new.changes) }
         ensures same { memory_of self.new ≡ memory_of self.old }
         ensures room { room_of self.new ≡ room_of self.old }
-        ensures ready { IsReady self.old → IsReady self.new }
+        ensures ready { HasMarkRoom self.old → HasMarkRoom self.new }
     {
         self.changes.reserve(more).map_err(|_| NoMemory)
     }
@@ -153,17 +153,17 @@ impl MemoryDevice {
         ensures room { room_of self.new ≡ room_of self.old }
         ensures changes { vec_len self.old.changes + more ≤ vec_capacity self.old.changes
             → vec_len self.new.changes + more ≤ vec_capacity self.new.changes }
-        ensures ready { IsReady self.old → IsReady self.new }
+        ensures ready { HasMarkRoom self.old → HasMarkRoom self.new }
     {
         self.unsure.reserve(more).map_err(|_| NoMemory)
     }
 
     /// Takes memory for the mark of one more command.
     fn reserve_mark(&mut self) -> Result<(), NoMemory>
-        ensures ready { OnOk result (IsReady self.new) }
+        ensures ready { OnOk result (HasMarkRoom self.new) }
         ensures same { memory_of self.new ≡ memory_of self.old }
         ensures room { room_of self.new ≡ room_of self.old }
-        ensures enough { IsReady self.old → IsOk result }
+        ensures enough { HasMarkRoom self.old → IsOk result }
     {
         self.marks.reserve(1).map_err(|_| NoMemory)
     }
@@ -185,7 +185,7 @@ impl MemoryDevice {
 
     /// Whether there is room for the mark of one more command.
     pub fn can_begin(&self) -> bool
-        ensures { IsTrue result ↔ IsReady self.now }
+        ensures { IsTrue result ↔ HasMarkRoom self.now }
     {
         self.marks.len() < self.marks.capacity()
     }
@@ -244,12 +244,12 @@ impl MemoryDevice {
     /// Puts a value into a blank cell, by this change of the record, which has room. It is counted if it is somebody
     /// else's.
     pub(crate) fn put(&mut self, at: u32, value: Cell, change: Change)
-        requires is { IsPut at value change }
+        requires is { PutsInto at value change }
         requires inside { at < (memory_of self.old).cells }
         requires free { (state_of self.old).image at ≡ None }
         requires room { 1 ≤ room_of self.old }
         requires ours { self.old.by_plan ≡ true → change ≡ Wrote at value }
-        ensures records { Puts change self.old self.new }
+        ensures records { RecordsPut change self.old self.new }
         ensures fits { (memory_of self.old).foreign_writes < 2 ^ 64 }
         ensures ample { self.new.ample ≡ self.old.ample }
     {

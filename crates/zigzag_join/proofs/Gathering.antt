@@ -10,7 +10,7 @@ use Rattle.worm_device.proofs.Counting.{still_first, still_second}
 use Rattle.zigzag_join.proofs.SlotCounts.{at_least, at_most, from_it, is_within, length_from, length_within, picked, times_both, times_more, times_on, within_it}
 use Rattle.zigzag_join.proofs.Joining.{keeps_self, keeps_then}
 use Rattle.zigzag_join.specs.Counts.{GatherCosts, HaveAllSlots, JoinCosts}
-use Rattle.zigzag_join.specs.Gathering.{Gathers, IsAmong, Rise}
+use Rattle.zigzag_join.specs.Gathering.{Gathers, IsAmongSlots, GatheredRise}
 use Rattle.zigzag_join.specs.Joins.{AllOwe, AllVouch, JoinEnds}
 use Rattle.zigzag_join.specs.Lists.{ListsState, Keeps}
 
@@ -24,10 +24,10 @@ pub record IsSummed (old now : ListsState) (from : ℕ) (all : List ℕ) : Type 
 pub record GatherSoFar (old now : ListsState) (from : ℕ) (slots : List ℕ) : Type 0 where
   pub kept : Keeps old now
   pub most : from ≤ 16777216
-  pub all : (slot : ℕ) → AllOwe old slot → slot < from → IsAmong slots slot
+  pub all : (slot : ℕ) → AllOwe old slot → slot < from → IsAmongSlots slots slot
   pub below : (i : ℕ) → i < length slots → slice_index slots i < from
   pub vouched : (i : ℕ) → i < length slots → AllVouch now (slice_index slots i)
-  pub rise : Rise slots
+  pub rise : GatheredRise slots
   pub counted : IsStill old.view.base.foreign_writes now.view.base.foreign_writes → (q : ℕ) → q + 1 ≤ old.lists
       → (all : List ℕ) → HaveAllSlots old q 0 all → IsSummed old now from all
 
@@ -49,7 +49,7 @@ gather_none old = record {
 length_push : (slots : List ℕ) (slot : ℕ) → length (slots ++ slot ∷ []) ≡ length slots + 1
 length_push slots slot = length-append slots (slot ∷ [])
 
-among_push : (slots : List ℕ) (last slot : ℕ) → IsAmong slots slot → IsAmong (slots ++ last ∷ []) slot
+among_push : (slots : List ℕ) (last slot : ℕ) → IsAmongSlots slots slot → IsAmongSlots (slots ++ last ∷ []) slot
 among_push slots last slot a = record {
   place = a.place;
   inside = omega (arith, a.inside, length_push slots last);

@@ -6,29 +6,29 @@ use Rattle.cell_types.specs.declared.refusal.Fault.TheVariants as faults
 use Rattle.cell_types.specs.declared.refusal.Refusal.{Refusal}
 use Rattle.cell_types.specs.declared.refusal.Refusal.TheVariants.{DeviceFault, NoMemory, Tampered}
 use Rattle.zigzag_join.specs.Joins.{AllOwe, AllVouch}
-use Rattle.zigzag_join.specs.Lists.{FaultEnds, ListsState}
+use Rattle.zigzag_join.specs.Lists.{ListsFaultEnds, ListsState}
 
 -- the slot is one of these
-pub record IsAmong (slots : List ℕ) (slot : ℕ) : Type 0 where
+pub record IsAmongSlots (slots : List ℕ) (slot : ℕ) : Type 0 where
   pub place : ℕ
   pub inside : place < length slots
   pub is : slice_index slots place ≡ slot
 
 -- these slots rise
-abbrev pub Rise : List ℕ → Type 0
-Rise slots = (i j : ℕ) → i < j → j < length slots → slice_index slots i < slice_index slots j
+abbrev pub GatheredRise : List ℕ → Type 0
+GatheredRise slots = (i j : ℕ) → i < j → j < length slots → slice_index slots i < slice_index slots j
 
 -- The slots that lists have in common: each that at entry no list could pass is one of them; every list vouches for
 -- each of them at exit; and they rise.
 pub record Gathers (old new : ListsState) (slots : List ℕ) : Type 0 where
-  pub all : (slot : ℕ) → AllOwe old slot → slot < MAX_SLOTS → IsAmong slots slot
+  pub all : (slot : ℕ) → AllOwe old slot → slot < MAX_SLOTS → IsAmongSlots slots slot
   pub vouched : (i : ℕ) → i < length slots → AllVouch new (slice_index slots i)
-  pub rise : Rise slots
+  pub rise : GatheredRise slots
 
 -- how gathering them may end, and why
 abbrev pub GatherEnds : ListsState → ListsState → Result (Vec ℕ) Refusal → Type 0
 GatherEnds old new (Ok slots) = Gathers old new slots.items
-GatherEnds old new (Err (Tampered e)) = FaultEnds old new (faults.Tampered e)
-GatherEnds old new (Err DeviceFault) = FaultEnds old new faults.Failed
+GatherEnds old new (Err (Tampered e)) = ListsFaultEnds old new (faults.Tampered e)
+GatherEnds old new (Err DeviceFault) = ListsFaultEnds old new faults.Failed
 GatherEnds old new (Err NoMemory) = ⊤
 GatherEnds old new (Err refusal) = ⊥

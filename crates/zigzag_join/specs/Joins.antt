@@ -2,7 +2,7 @@
 use Rattle.std.specs.Prelude.{◌≡◌, ◌<◌, ◌≤◌, ◌+◌, ◌⊎◌, ℕ, Bool, true, false, Option, Some, None, Result, Ok, Err}
 use Rattle.cell_types.specs.declared.geometry.TheConstants.{MAX_SLOTS}
 use Rattle.cell_types.specs.declared.refusal.Fault.{Fault}
-use Rattle.zigzag_join.specs.Lists.{ListsState, FaultEnds}
+use Rattle.zigzag_join.specs.Lists.{ListsState, ListsFaultEnds}
 
 -- no list may pass the slot
 abbrev pub AllOwe : ListsState → ℕ → Type 0
@@ -24,7 +24,7 @@ HasAgreed next slot agreed now = ((slot < next) × (now ≡ 1)) ⊎ ((next ≡ s
 abbrev pub AllHaveEnds : ℕ → ListsState → ListsState → Result Bool Fault → Type 0
 AllHaveEnds slot old new (Ok true) = AllVouch new slot
 AllHaveEnds slot old new (Ok false) = AllOwe old slot → ⊥
-AllHaveEnds slot old new (Err fault) = FaultEnds old new fault
+AllHaveEnds slot old new (Err fault) = ListsFaultEnds old new fault
 
 -- The next slot at or past one that all lists have: every list vouches for it at exit, and no slot before it was one
 -- that at entry no list could pass. None comes only where there is no such slot at all.
@@ -32,4 +32,4 @@ abbrev pub JoinEnds : ℕ → ListsState → ListsState → Result (Option ℕ) 
 JoinEnds from old new (Ok (Some n)) =
     (from ≤ n) × (n < MAX_SLOTS) × AllVouch new n × ((slot : ℕ) → AllOwe old slot → from ≤ slot → n ≤ slot)
 JoinEnds from old new (Ok None) = (slot : ℕ) → AllOwe old slot → from ≤ slot → slot < MAX_SLOTS → ⊥
-JoinEnds from old new (Err fault) = FaultEnds old new fault
+JoinEnds from old new (Err fault) = ListsFaultEnds old new fault

@@ -70,9 +70,9 @@ pub record Keeps (old new : ListsState) : Type 0 where
 
 -- Why there is no answer: a call below failed, or this is evidence that the lists may name, and that they show
 -- where nobody else wrote.
-abbrev pub FaultEnds : ListsState → ListsState → Fault → Type 0
-FaultEnds old new Failed = Rose old.view.base.faults new.view.base.faults
-FaultEnds old new (Tampered e) =
+abbrev pub ListsFaultEnds : ListsState → ListsState → Fault → Type 0
+ListsFaultEnds old new Failed = Rose old.view.base.faults new.view.base.faults
+ListsFaultEnds old new (Tampered e) =
     new.may_name e × (IsStill old.view.base.foreign_writes new.view.base.foreign_writes → new.shows e)
 
 -- one ask for a next slot was made, and is counted where the count has not reached its last value
@@ -86,20 +86,20 @@ AsksHas old new =
     (new.next_asks ≡ old.next_asks) × (new.has_asks ≤ old.has_asks + 1) × Rose old.has_asks new.has_asks
 
 -- what a list answers that is asked for a slot at or past one
-abbrev pub NextEnds : ℕ → ℕ → ListsState → ListsState → Result (Option ℕ) Fault → Type 0
-NextEnds which from old new (Ok (Some n)) =
+abbrev pub ListNextEnds : ℕ → ℕ → ListsState → ListsState → Result (Option ℕ) Fault → Type 0
+ListNextEnds which from old new (Ok (Some n)) =
     (from ≤ n) × (n < MAX_SLOTS) × new.lands which n × ((slot : ℕ) → old.owes which slot → from ≤ slot → n ≤ slot)
-NextEnds which from old new (Ok None) = (slot : ℕ) → old.owes which slot → from ≤ slot → ⊥
-NextEnds which from old new (Err fault) = FaultEnds old new fault
+ListNextEnds which from old new (Ok None) = (slot : ℕ) → old.owes which slot → from ≤ slot → ⊥
+ListNextEnds which from old new (Err fault) = ListsFaultEnds old new fault
 
 -- and where it tells besides that it vouches for the slot
 abbrev pub LandEnds : ℕ → ℕ → ListsState → ListsState → Result (Option Landing) Fault → Type 0
 LandEnds which from old new (Ok (Some landing)) =
-    NextEnds which from old new (Ok (Some landing.slot)) × (IsTrue landing.vouched → new.vouches which landing.slot)
-LandEnds which from old new (Ok None) = NextEnds which from old new (Ok None)
-LandEnds which from old new (Err fault) = FaultEnds old new fault
+    ListNextEnds which from old new (Ok (Some landing.slot)) × (IsTrue landing.vouched → new.vouches which landing.slot)
+LandEnds which from old new (Ok None) = ListNextEnds which from old new (Ok None)
+LandEnds which from old new (Err fault) = ListsFaultEnds old new fault
 
 -- what a list answers that is asked whether it has a slot
 abbrev pub HasEnds : ℕ → ℕ → ListsState → ListsState → Result Bool Fault → Type 0
 HasEnds which slot old new (Ok there) = (old.owes which slot → IsTrue there) × (IsTrue there → new.vouches which slot)
-HasEnds which slot old new (Err fault) = FaultEnds old new fault
+HasEnds which slot old new (Err fault) = ListsFaultEnds old new fault

@@ -1,7 +1,7 @@
 //! Lists of slots that can be asked for the next slot at or past one, and whether they have one.
 ghost use Rattle.std.specs.Prelude.{◌≡◌, ◌<◌, ◌≤◌};
 ghost use Rattle.cell_types.specs.declared.geometry.TheConstants.{MAX_SLOTS};
-ghost use Rattle.zigzag_join.specs.Lists.{ListsState, Keeps, NextEnds, LandEnds, HasEnds, AsksNext, AsksHas};
+ghost use Rattle.zigzag_join.specs.Lists.{ListsState, Keeps, ListNextEnds, LandEnds, HasEnds, AsksNext, AsksHas};
 
 use cell_types::Fault;
 
@@ -30,7 +30,7 @@ pub trait Lists {
         requires from { from ≤ MAX_SLOTS }
         ensures kept { Keeps (state self.old) (state self.new) }
         ensures asks { AsksNext (state self.old) (state self.new) }
-        ensures ends { NextEnds which from (state self.old) (state self.new) result };
+        ensures ends { ListNextEnds which from (state self.old) (state self.new) result };
 
     /// The same as `next`, which a list may know more of: one that vouches for the slot need not be asked whether it has
     /// it.

@@ -11,12 +11,12 @@ use Rattle.worm_device.specs.Overlays.{Plans}
 use Rattle.worm_device.specs.Views.{ViewState}
 use Rattle.worm_device.specs.declared.overlay.PlannedCells.{PlannedCells}
 use Rattle.worm_device.specs.declared.owner.Owner.{Owner}
-use Rattle.hash_tree.specs.Levels.{IsPlaced}
+use Rattle.hash_tree.specs.Levels.{IsLevelPlaced}
 use Rattle.hash_tree.specs.Steps.{IsOpenOf}
 use Rattle.hash_tree.specs.declared.level.ChildCell.{ChildCell}
 use Rattle.hash_tree.specs.declared.level.Level.{Level}
 use Rattle.hash_tree.specs.declared.path.Open.{Open}
-use Rattle.hash_tree.specs.Readiness.{IsReady, blank_of}
+use Rattle.hash_tree.specs.Readiness.{IsReadyPlace, blank_of}
 use Rattle.hash_tree.proofs.Readiness.{ready_after}
 use Rattle.index_tests.proofs.nodes.a_node_that_is_planned_for_a_list_is_evidence.Goals as goal
 
@@ -32,11 +32,11 @@ owner_now {old} {new} {at} {value} {owner} none plans cell other is =
     some_owner a b e = cc
 
 ready_beside : {g : Layout} {edge next : ℕ} {level : Level} {place : Open} {seen old new : ViewState} {value : List ℕ}
-    {owner : Owner} {led : ChildCell} → IsPlaced g edge seen level → IsOpenOf g level place → pool_at g ≤ edge
+    {owner : Owner} {led : ChildCell} → IsLevelPlaced g edge seen level → IsOpenOf g level place → pool_at g ≤ edge
     → old.fresh ≡ edge → edge ≡ next → (IsTrue old.base.tells → IsTrue seen.base.tells × Extends seen.image old.lower)
     → ((cell : ℕ) → old.planned cell ≡ None) → ((cell : ℕ) → old.owners cell ≡ None)
     → Plans place.bucket value owner old new (Ok tt) → place.bucket < edge → level.led_by ≡ Some led
-    → owner.head ≢ root_at g → IsReady g level place next new
+    → owner.head ≢ root_at g → IsReadyPlace g level place next new
 ready_beside {g} {edge} {next} {level} {place} {seen} {old} {new} {value} {owner} {led} placed at from is_fresh is_next
     stands blank unowned plans low is_led another =
     ready_after placed at from (ap (λ (n : ℕ). n) plans.fresh ∙ is_fresh) (omega (arith, is_next))

@@ -2,7 +2,7 @@
 use Rattle.std.proofs.Common.{ℕ, sym, subst}
 use Rattle.worm_device.specs.Overlays.{of_overlay}
 use Rattle.jump_insertion.specs.Inserting.{fields_of}
-use Rattle.jump_insertion.specs.Readiness.{IsReady}
+use Rattle.jump_insertion.specs.Readiness.{IsReadyList}
 use Rattle.index_tests.proofs.Rows.{row_begins, row_goes_on}
 use Rattle.worm_device.specs.Overlaying.{overlay_shows}
 use Rattle.index_tests.proofs.postings.insert_row.Goals as goal
@@ -15,7 +15,7 @@ loop-done-init g c =
 
 pub insert-requires-clause-ready : goal.insert-requires-clause-ready
 insert-requires-clause-ready g c = λ tells.
-    subst (λ (key : ℕ). IsReady (of_overlay g.V.View.seen c.loop-done.overlay) 36 580 c.loop-done.pool.next key)
+    subst (λ (key : ℕ). IsReadyList (of_overlay g.V.View.seen c.loop-done.overlay) 36 580 c.loop-done.pool.next key)
     (sym c.posting.ensures.key) (c.loop-done.invariant.ready tells)
 
 pub loop-done-preserved : goal.loop-done-preserved

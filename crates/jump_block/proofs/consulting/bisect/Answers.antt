@@ -3,7 +3,7 @@ use Rattle.std.proofs.Common.{◌<◌, ◌+◌, ◌-◌, ◌/◌, ℕ, sym, subs
 use Rattle.cell_types.proofs.Passed.{handed}
 use Rattle.worm_device.proofs.Resting.{viewed_self, viewed_then}
 use Rattle.jump_block.specs.Fronts.{AreBelow}
-use Rattle.jump_block.specs.Known.{IsPast}
+use Rattle.jump_block.specs.Known.{IsPastKey}
 use Rattle.jump_block.proofs.Knowing.{below_on, halved, past_known, past_on}
 use Rattle.jump_block.proofs.KnownReads.{fault_at, next_below, not_blank, past_at}
 use Rattle.jump_block.proofs.consulting.bisect.Goals as goal
@@ -46,7 +46,7 @@ loop-halving-preserved g c =
         within = omega (arith, w.high-is, inv.within);
         narrow = omega (arith, w.low-is, w.high-is, inv.narrow, half);
         past = λ tells.
-            let P : ℕ → Type 0 = λ n. IsPast (g.V.View.seen c.entry.new.view).image c.args.front.now.block n c.args.x in
+            let P : ℕ → Type 0 = λ n. IsPastKey (g.V.View.seen c.entry.new.view).image c.args.front.now.block n c.args.x in
             subst P (sym w.high-is) (past_on c.entry.ensures.viewed.image (inv.past tells));
         below = λ tells.
             let P : ℕ → Type 0 = λ n. AreBelow (g.V.View.seen c.entry.new.view).image c.args.front.now.block n
@@ -62,7 +62,7 @@ loop-halving-preserved g c =
         within = omega (arith, w.high-is, inv.within);
         narrow = omega (arith, w.low-is, w.high-is, inv.narrow, half);
         past = λ tells.
-            let P : ℕ → Type 0 = λ n. IsPast (g.V.View.seen c.entry.new.view).image c.args.front.now.block n c.args.x in
+            let P : ℕ → Type 0 = λ n. IsPastKey (g.V.View.seen c.entry.new.view).image c.args.front.now.block n c.args.x in
             subst P (sym w.high-is) (past_at c.args.front.now c.args.x _ _ _ inv.viewed c.requires.known
             c.requires.places middle less w.in-Some.next w.if-next-x.false
             (rw w.in-Some.is at c.in_ok-found.ensures) tells);

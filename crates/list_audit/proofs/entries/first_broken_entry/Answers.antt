@@ -1,7 +1,7 @@
 -- One block more, and all of them.
 use Rattle.std.proofs.Common.{ℕ, arith}
 use Rattle.std.proofs.lemmas.Option.{slice_get-get_or}
-use Rattle.log_audit.specs.Kept.{image_of}
+use Rattle.log_audit.specs.Kept.{image_of_kept}
 use Rattle.tamper_rules.specs.Rules.{Entries}
 use Rattle.list_audit.specs.Entries.{BlockAsks}
 use Rattle.list_audit.proofs.EachBlock.{one_block, every_block}
@@ -13,13 +13,13 @@ first_in_block-requires c = c.requires.each c.loop-block.block-index _
     (slice_get-get_or c.args.blocks.now c.loop-block.block-index (record { list = 0; block = 0 }) (omega arith))
 
 pub loop-block-preserved : goal.loop-block-preserved
-loop-block-preserved c = one_block c.args.geometry.now (image_of c.args.kept.now) Entries c.args.blocks.now
-    (λ (_ block : ℕ). BlockAsks (image_of c.args.kept.now) block) c.loop-block.block-index _ _ _ _ c.loop-block.invariant
+loop-block-preserved c = one_block c.args.geometry.now (image_of_kept c.args.kept.now) Entries c.args.blocks.now
+    (λ (_ block : ℕ). BlockAsks (image_of_kept c.args.kept.now) block) c.loop-block.block-index _ _ _ _ c.loop-block.invariant
     (slice_get-get_or c.args.blocks.now c.loop-block.block-index (record { list = 0; block = 0 }) (omega arith))
     c.first_in_block.ensures c.lower_of-least.ensures
 
 pub returns : goal.returns
-returns c = every_block c.args.geometry.now (image_of c.args.kept.now) Entries c.args.blocks.now
-    (λ (_ block : ℕ). BlockAsks (image_of c.args.kept.now) block) c.loop-block.block-index _ c.requires c.loop-block.invariant
-    (omega (arith, c.loop-block-test.false)) (rule_asks c.args.geometry.now (image_of c.args.kept.now))
-    (block_asks c.args.geometry.now (image_of c.args.kept.now))
+returns c = every_block c.args.geometry.now (image_of_kept c.args.kept.now) Entries c.args.blocks.now
+    (λ (_ block : ℕ). BlockAsks (image_of_kept c.args.kept.now) block) c.loop-block.block-index _ c.requires c.loop-block.invariant
+    (omega (arith, c.loop-block-test.false)) (rule_asks c.args.geometry.now (image_of_kept c.args.kept.now))
+    (block_asks c.args.geometry.now (image_of_kept c.args.kept.now))

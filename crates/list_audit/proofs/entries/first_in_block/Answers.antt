@@ -1,6 +1,6 @@
 -- The block lies on the device; its first place that breaks the rule; and none does.
 use Rattle.std.proofs.Common.{◌≤◌, ◌<◌, ◌+◌, ℕ, refl, sym, ◌∙◌, arith}
-use Rattle.log_audit.specs.Kept.{image_of}
+use Rattle.log_audit.specs.Kept.{image_of_kept}
 use Rattle.tamper_rules.specs.Rules.{Entries}
 use Rattle.log_audit.proofs.Deciding.{decided_no}
 use Rattle.log_audit.proofs.Parts.{first_of_part}
@@ -21,7 +21,7 @@ keeps_entry_rule-requires-clause-room c =
 
 pub returns-then-not-keeps_entry_rule : goal.returns-then-not-keeps_entry_rule
 returns-then-not-keeps_entry_rule c =
-    let g = c.args.geometry.now in let image = image_of c.args.kept.now in let block = c.args.listed.now.block in
+    let g = c.args.geometry.now in let image = image_of_kept c.args.kept.now in let block = c.args.listed.now.block in
     let few : c.loop-place.place < 256 = omega (arith, c.loop-place-test.true) in
     first_of_part g image Entries (BlockAsks image block) (λ (place : ℕ). block + place) (KeepsEntryRule image block) c.loop-place.place 256 _
     (λ cell asked. asked) (λ asked. asked c.loop-place.place few refl) (λ a b less. omega (arith, less)) c.loop-place.invariant

@@ -1,7 +1,7 @@
 -- The block lies on the device; no posting, one of a document's, the first that is none's; and each is one's.
 use Rattle.std.proofs.Common.{◌≤◌, ◌<◌, ◌+◌, ℕ, refl, sym, ◌∙◌, arith}
 use Rattle.std.proofs.lemmas.Option.{none-some}
-use Rattle.log_audit.specs.Kept.{image_of}
+use Rattle.log_audit.specs.Kept.{image_of_kept}
 use Rattle.tamper_rules.specs.Rules.{Postings}
 use Rattle.log_audit.proofs.Deciding.{decided_no, decided_yes}
 use Rattle.log_audit.proofs.Families.{fine_more}
@@ -23,7 +23,7 @@ loop-place-preserved-in_default c = fine_more c.loop-place.invariant (λ _ p hol
 
 pub loop-place-preserved : goal.loop-place-preserved
 loop-place-preserved c =
-    let g = c.args.geometry.now in let image = image_of c.args.kept.now in let l = c.args.listed.now.list in
+    let g = c.args.geometry.now in let image = image_of_kept c.args.kept.now in let l = c.args.listed.now.list in
     let fits : FitsRow l c.in-Some.posting = record { list = omega arith; key = omega arith; last = omega arith } in
     fine_more c.loop-place.invariant (λ _. found_owed g image l c.args.listed.now.block c.loop-place.place c.posting_at.ensures.one c.in-Some.is
     ((of_table g image c.args.table.now.rows.items l c.in-Some.posting c.requires.owed fits).0 (decided_yes _ c.has.ensures c.if-has.true)))
@@ -33,7 +33,7 @@ unreachable-requires c = none-some _ (sym c.in_default-at.is ∙ c.at.ensures �
 
 pub returns-in-loop-place : goal.returns-in-loop-place
 returns-in-loop-place c =
-    let g = c.args.geometry.now in let image = image_of c.args.kept.now in
+    let g = c.args.geometry.now in let image = image_of_kept c.args.kept.now in
     let l = c.args.listed.now.list in let block = c.args.listed.now.block in
     let fits : FitsRow l c.in-Some.posting = record { list = omega arith; key = omega arith; last = omega arith } in
     let few : c.loop-place.place < 128 = omega (arith, c.loop-place-test.true, c.from-place-end.ensures) in
@@ -45,7 +45,7 @@ returns-in-loop-place c =
 
 pub returns : goal.returns
 returns c =
-    let g = c.args.geometry.now in let image = image_of c.args.kept.now in
+    let g = c.args.geometry.now in let image = image_of_kept c.args.kept.now in
     let l = c.args.listed.now.list in let block = c.args.listed.now.block in
     part_met g image Postings (BlockOwes g image l block) (λ (place : ℕ). block + place) (KeepsPostingRule g image l block)
     c.loop-place.place (λ cell asked k less at. asked k (omega (arith, less, c.loop-place-test.false, c.from-place-end.ensures)) at)

@@ -1,13 +1,13 @@
 -- The first free slot, a slot more, and no slot left.
 use Rattle.std.proofs.Common.{◌≡◌, refl, sym, ◌∙◌, ap, arith, None}
 use Rattle.cell_types.specs.Layout.{reserve_at}
-use Rattle.log_audit.specs.Kept.{image_of}
+use Rattle.log_audit.specs.Kept.{image_of_kept}
 use Rattle.log_audit.proofs.LogSoFar.{one_more, is_log, free_from}
 use Rattle.log_audit.proofs.log.log_of.Goals as goal
 
 pub returns-in_default : goal.returns-in_default
 returns-in_default c =
-    let image = image_of c.args.kept.now in
+    let image = image_of_kept c.args.kept.now in
     let none : image (reserve_at c.loop-slot.slot) ≡ None = sym (ap image c.reserve_at-cell.ensures.at) ∙ sym c.at.ensures ∙ c.in_default.is in
     is_log c.loop-slot.invariant (free_from c.args.geometry.now image c.loop-slot.slot c.requires none) _ refl refl
 

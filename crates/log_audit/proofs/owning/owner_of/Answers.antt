@@ -1,12 +1,12 @@
 -- No slot reserves the cell; the slot that does holds no document, or the cell lies before it, or does not.
-use Rattle.log_audit.specs.Kept.{image_of}
+use Rattle.log_audit.specs.Kept.{image_of_kept}
 use Rattle.log_audit.proofs.Holders.{log_in_row, owner_holds, not_owned, owned, not_before}
 use Rattle.std.proofs.Common.{arith}
 use Rattle.log_audit.proofs.owning.owner_of.Goals as goal
 
 pub reserving_slot-requires-clause-row : goal.reserving_slot-requires-clause-row
 reserving_slot-requires-clause-row c =
-    log_in_row c.args.geometry.now (image_of c.args.kept.now) c.args.log.now c.requires.log c.requires.met
+    log_in_row c.args.geometry.now (image_of_kept c.args.kept.now) c.args.log.now c.requires.log c.requires.met
 
 pub returns-in_default-clause-none : goal.returns-in_default-clause-none
 returns-in_default-clause-none c = λ m lies. c.in_default.ensures.none m (owner_holds c.requires.log lies)

@@ -4,20 +4,20 @@ use Rattle.volume_meaning.specs.Volumes.{Holds}
 use Rattle.cell_types.specs.Layout.{outcome_at}
 use Rattle.cell_types.specs.declared.record_cell.RecordCell.{RecordCell}
 use Rattle.cell_types.specs.declared.record_cell.RecordCell.TheVariants.{Abandon, Commit}
-use Rattle.log_audit.specs.Kept.{image_of}
+use Rattle.log_audit.specs.Kept.{image_of_kept}
 use Rattle.log_audit.proofs.Deciding.{no, yes, none_held, is_held, written_by, decided_no, decided_yes}
 use Rattle.log_audit.proofs.Outcomes.{outcome_fits, outcome_of_commit}
 use Rattle.log_audit.proofs.slot_rules.keeps_outcome_rule.Goals as goal
 
 pub returns-in_default : goal.returns-in_default
 returns-in_default c = no (λ h. ⊎_elim
-    (λ (a : Holds (image_of c.args.kept.now) (outcome_at c.args.slot) Abandon). none_held c.record_at.ensures.one c.in_default.is c.outcome_at.ensures.at a)
+    (λ (a : Holds (image_of_kept c.args.kept.now) (outcome_at c.args.slot) Abandon). none_held c.record_at.ensures.one c.in_default.is c.outcome_at.ensures.at a)
     (λ d. none_held c.record_at.ensures.one c.in_default.is c.outcome_at.ensures.at d.2)
     h.outcome)
 
 pub returns-in-Abandon : goal.returns-in-Abandon
 returns-in-Abandon c =
-    let image = image_of c.args.kept.now in
+    let image = image_of_kept c.args.kept.now in
     let h : Holds image c.outcome_at.result c.in-Some.outcome = c.in-Some.ensures.some in
     let is : Holds image (outcome_at c.args.slot) Abandon =
     is_held (subst (λ (r : RecordCell). Holds image c.outcome_at.result r) c.in-Abandon.is h) c.outcome_at.ensures.at in
@@ -25,7 +25,7 @@ returns-in-Abandon c =
 
 pub returns-then-not-fits_reserved : goal.returns-then-not-fits_reserved
 returns-then-not-fits_reserved c =
-    let image = image_of c.args.kept.now in
+    let image = image_of_kept c.args.kept.now in
     let h : Holds image c.outcome_at.result c.in-Some.outcome = c.in-Some.ensures.some in
     let is : Holds image (outcome_at c.args.slot) (Commit c.in-Commit.bytes c.in-Commit.journal) =
     is_held (subst (λ (r : RecordCell). Holds image c.outcome_at.result r) c.in-Commit.is h) c.outcome_at.ensures.at in
@@ -34,7 +34,7 @@ returns-then-not-fits_reserved c =
 
 pub returns-else-not-fits_reserved : goal.returns-else-not-fits_reserved
 returns-else-not-fits_reserved c =
-    let image = image_of c.args.kept.now in
+    let image = image_of_kept c.args.kept.now in
     let h : Holds image c.outcome_at.result c.in-Some.outcome = c.in-Some.ensures.some in
     let is : Holds image (outcome_at c.args.slot) (Commit c.in-Commit.bytes c.in-Commit.journal) =
     is_held (subst (λ (r : RecordCell). Holds image c.outcome_at.result r) c.in-Commit.is h) c.outcome_at.ensures.at in

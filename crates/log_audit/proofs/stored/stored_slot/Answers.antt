@@ -1,13 +1,13 @@
 -- What the log says.
 use Rattle.std.proofs.Common.{Some, sym, ◌∙◌, ap}
-use Rattle.log_audit.specs.Kept.{image_of}
+use Rattle.log_audit.specs.Kept.{image_of_kept}
 use Rattle.log_audit.proofs.Logged.{stores_of}
 use Rattle.log_audit.proofs.Storing.{stored_there}
 use Rattle.log_audit.proofs.stored.stored_slot.Goals as goal
 
 pub returns-in_default-clause-none : goal.returns-in_default-clause-none
 returns-in_default-clause-none c = λ start length bytes journal stores.
-    let e = stores_of c.args._geometry.now (image_of c.args._kept.now) c.args.log.now c.requires c.args.slot start length bytes journal stores in
+    let e = stores_of c.args._geometry.now (image_of_kept c.args._kept.now) c.args.log.now c.requires c.args.slot start length bytes journal stores in
     let is = c.in_default.is in let at = c.at.ensures in cc
 
 pub returns-in-Done-clause-some : goal.returns-in-Done-clause-some
@@ -15,5 +15,5 @@ returns-in-Done-clause-some c = stored_there c.args.log.now c.requires _ _ _ _ _
 
 pub returns-in-Abandoned-clause-none : goal.returns-in-Abandoned-clause-none
 returns-in-Abandoned-clause-none c = λ start length bytes journal stores.
-    let e = stores_of c.args._geometry.now (image_of c.args._kept.now) c.args.log.now c.requires c.args.slot start length bytes journal stores in
+    let e = stores_of c.args._geometry.now (image_of_kept c.args._kept.now) c.args.log.now c.requires c.args.slot start length bytes journal stores in
     let is = c.in-Some.is in let at = c.at.ensures in let a = c.in-Abandoned.is in cc

@@ -2,7 +2,7 @@
 use Rattle.std.proofs.Common.{ℕ, List, Option, Some, Err, sym, ap, ◌∙◌, subst, refl, arith}
 use Rattle.std.proofs.lemmas.Option.{slice_get-get_or}
 use Rattle.cell_types.specs.declared.refusal.Fault.{Fault}
-use Rattle.plan_writer.specs.Blank.{RowEnds}
+use Rattle.plan_writer.specs.Blank.{RowLookEnds}
 use Rattle.plan_writer.proofs.BlankSoFar.{nothing_more}
 use Rattle.plan_writer.proofs.blank.check_row.Goals as goal
 
@@ -12,7 +12,7 @@ loop-place-init c = λ place below. absurd (omega (arith, below))
 -- this one was written
 pub returns-in-Some : goal.returns-in-Some
 returns-in-Some c =
-    subst (λ (fault : Fault). RowEnds c.args.start c.args.row.now (Err fault)) (sym c.breach.ensures)
+    subst (λ (fault : Fault). RowLookEnds c.args.start c.args.row.now (Err fault)) (sym c.breach.ensures)
     (record {
       rule = refl;
       place = c.loop-place.place;

@@ -11,7 +11,7 @@ pub returns-in-Find : goal.returns-in-Find
 returns-in-Find g c = rw c.in-Find.is c.find_documents.ensures
 
 pub returns-in-LookUp : goal.returns-in-LookUp
-returns-in-LookUp g c = rw c.in-LookUp.is c.look_up_document.ensures
+returns-in-LookUp g c = rw c.in-LookUp.is c.lookup_document.ensures
 
 pub returns-in-Replay : goal.returns-in-Replay
 returns-in-Replay g c = rw c.in-Replay.is c.replay_script.ensures

@@ -19,7 +19,7 @@ use Rattle.recovery_engine.proofs.Settled.{ready, unused_bounds, unused_ready, o
 use Rattle.recovery_engine.proofs.Licensed.{check_names, check_refused, end_names, end_refused, last_on, volume_later}
 use Rattle.tamper_rules.specs.Settling.{Settled}
 use Rattle.recovery_engine.specs.Ending.{HasJournal, end_phases}
-use Rattle.recovery_engine.specs.LastSlot.{IsLast}
+use Rattle.recovery_engine.specs.LastSlot.{IsLastSlot}
 use Rattle.cell_types.specs.Image.{IsUnchanged}
 use Rattle.worm_device.proofs.Counting.{still_first, still_second}
 use Rattle.recovery_engine.proofs.settling.settle.Goals as goal
@@ -178,7 +178,7 @@ returns-in_err-check_slot g c =
     let tells_4 : IsTrue s0.tells → IsTrue s4.tells = λ t. subst IsTrue (sym l4.called.tells) t in
     let tells_5 : IsTrue s0.tells → IsTrue s5.tells = λ t. subst IsTrue (sym l5.called.tells) t in
     let c35 = called_then c.last_slot_of_device.ensures.called c.check_slot.ensures.called in
-    let last_4 : IsTrue s4.tells → IsLast layout s3.image s4.image n state = λ t. c.in_ok-state.ensures.ends.1
+    let last_4 : IsTrue s4.tells → IsLastSlot layout s3.image s4.image n state = λ t. c.in_ok-state.ensures.ends.1
     (subst IsTrue c.last_slot_of_device.ensures.called.tells t) in
     let c24 = called_then c.log_end_of_device.ensures.called c.last_slot_of_device.ensures.called in
     let whole : IsTrue s0.tells → Settled s0.cells s0.image → IsStill s0.foreign_writes s5.foreign_writes
@@ -241,9 +241,9 @@ returns-in_err-end_slot g c =
     let tells_4 : IsTrue s0.tells → IsTrue s4.tells = λ t. subst IsTrue (sym l4.called.tells) t in
     let tells_5 : IsTrue s0.tells → IsTrue s5.tells = λ t. subst IsTrue (sym l5.called.tells) t in
     let c35 = called_then c.last_slot_of_device.ensures.called c.check_slot.ensures.called in
-    let last_4 : IsTrue s4.tells → IsLast layout s3.image s4.image n state = λ t. c.in_ok-state.ensures.ends.1
+    let last_4 : IsTrue s4.tells → IsLastSlot layout s3.image s4.image n state = λ t. c.in_ok-state.ensures.ends.1
     (subst IsTrue c.last_slot_of_device.ensures.called.tells t) in
-    let last_5 : IsTrue s5.tells → IsLast layout s3.image s5.image n state = λ t. last_on layout s3.image s4.image
+    let last_5 : IsTrue s5.tells → IsLastSlot layout s3.image s5.image n state = λ t. last_on layout s3.image s4.image
     s5.image n state c.check_slot.ensures.called.image (last_4 (subst IsTrue c.check_slot.ensures.called.tells t))
     in
     let quiet_35 : IsStill s3.foreign_writes s5.foreign_writes → IsUnchanged s3.image s5.image = λ still. unchanged_then
@@ -331,9 +331,9 @@ returns g c =
     let tells_4 : IsTrue s0.tells → IsTrue s4.tells = λ t. subst IsTrue (sym l4.called.tells) t in
     let tells_5 : IsTrue s0.tells → IsTrue s5.tells = λ t. subst IsTrue (sym l5.called.tells) t in
     let c35 = called_then c.last_slot_of_device.ensures.called c.check_slot.ensures.called in
-    let last_4 : IsTrue s4.tells → IsLast layout s3.image s4.image n state = λ t. c.in_ok-state.ensures.ends.1
+    let last_4 : IsTrue s4.tells → IsLastSlot layout s3.image s4.image n state = λ t. c.in_ok-state.ensures.ends.1
     (subst IsTrue c.last_slot_of_device.ensures.called.tells t) in
-    let last_5 : IsTrue s5.tells → IsLast layout s3.image s5.image n state = λ t. last_on layout s3.image s4.image
+    let last_5 : IsTrue s5.tells → IsLastSlot layout s3.image s5.image n state = λ t. last_on layout s3.image s4.image
     s5.image n state c.check_slot.ensures.called.image (last_4 (subst IsTrue c.check_slot.ensures.called.tells t))
     in
     let quiet_35 : IsStill s3.foreign_writes s5.foreign_writes → IsUnchanged s3.image s5.image = λ still. unchanged_then

@@ -1,6 +1,6 @@
 -- A slot without a document; one whose journal is in order; one whose is not; and all.
 use Rattle.std.proofs.Common.{sym, subst, inr, arith}
-use Rattle.log_audit.specs.Kept.{image_of}
+use Rattle.log_audit.specs.Kept.{image_of_kept}
 use Rattle.tamper_rules.specs.Rules.{Journals, ReserveCells}
 use Rattle.slot_audit.specs.Journals.{IsFirstPlace, IsOrdered}
 use Rattle.slot_audit.proofs.Going.{AreGoodTo, none_more, slot_more, all_good, least_place, in_pool}
@@ -19,7 +19,7 @@ loop-slot-preserved c = slot_more c.loop-slot.invariant c.in-Some.ensures.some c
 
 pub returns-in-loop-slot : goal.returns-in-loop-slot
 returns-in-loop-slot c =
-    let g = c.args.geometry.now in let image = image_of c.args.kept.now in let stored = c.in-Some.ensures.some in
+    let g = c.args.geometry.now in let image = image_of_kept c.args.kept.now in let stored = c.in-Some.ensures.some in
     let first : IsFirstPlace (IsOrdered g image c.in-Some.stored) image Journals c.in-Some.stored (c.in-Some-first_disorder_of).entry
     = (c.in-Some-first_disorder_of).ensures in
     least_place g image (c.requires.met ReserveCells (omega arith)) Journals (IsOrdered g image) stored

@@ -1,6 +1,6 @@
 -- A slot without a document; one whose targets hold the same; one of which one does not; and all.
 use Rattle.std.proofs.Common.{sym, subst, arith}
-use Rattle.log_audit.specs.Kept.{image_of}
+use Rattle.log_audit.specs.Kept.{image_of_kept}
 use Rattle.tamper_rules.specs.Rules.{Journals, Targets, ReserveCells}
 use Rattle.slot_audit.specs.Journals.{IsFirstPlace, IsRedone}
 use Rattle.slot_audit.proofs.Going.{AreGoodTo, none_more, slot_more, all_good, least_place, in_pool}
@@ -16,7 +16,7 @@ loop-slot-preserved c = slot_more c.loop-slot.invariant c.in-Some.ensures.some c
 
 pub returns-in-loop-slot : goal.returns-in-loop-slot
 returns-in-loop-slot c =
-    let g = c.args.geometry.now in let image = image_of c.args.kept.now in let stored = c.in-Some.ensures.some in
+    let g = c.args.geometry.now in let image = image_of_kept c.args.kept.now in let stored = c.in-Some.ensures.some in
     let first : IsFirstPlace (IsRedone image c.in-Some.stored) image Targets c.in-Some.stored (c.in-Some-first_undone_of).copy
     = (c.in-Some-first_undone_of).ensures in
     let kept = c.requires.met Journals (omega arith) _ (record { found = _; stands = first.stands }) in

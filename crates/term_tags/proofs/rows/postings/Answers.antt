@@ -2,7 +2,7 @@
 use Rattle.std.proofs.Common.{◌∙◌, ℕ, List, None, map, sym, ap, subst, arith}
 use Rattle.volume_meaning.specs.Postings.{ArePostings}
 use Rattle.term_tags.specs.Keys.{AreInLists, AreKeys}
-use Rattle.term_tags.specs.Listing.{AllFit, AreCounts, IsFirstOver, listed, rows_of}
+use Rattle.term_tags.specs.Listing.{AllFit, AreCounts, IsFirstOver, listed, posting_rows}
 use Rattle.term_tags.specs.declared.rows.Posting.{Posting}
 use Rattle.term_tags.proofs.Bodies.{few_tags, in_lists, too_many}
 use Rattle.term_tags.proofs.RowLaws.{are_postings}
@@ -39,7 +39,7 @@ returns-in-Ok-rows-clause-ok c = λ g body same words n.
     (subst (λ (ks : List ℕ). AreCounts c.args.lists ks counts) c.deref.ensures.value c.in-Ok-count_each.ensures) in
     let fit = subst (λ (n : ℕ). AllFit counts n) (sym same)
     (subst (λ (cs : List ℕ). AllFit cs c.args.lists) c.deref-2.ensures.value c.in_default-first_over.ensures.fit) in
-    let is = c.in-Ok-rows.ensures ∙ ap rows_of c.deref-3.ensures.value in
+    let is = c.in-Ok-rows.ensures ∙ ap posting_rows c.deref-3.ensures.value in
     subst (λ (rows : List Posting). ArePostings g None body n (map (listed n) rows)) (sym is)
     (are_postings g body terms keys words keyed
     (in_lists g.lists terms keys (omega (arith, same, c.requires)) keyed) (few_tags g.lists keys counts counted fit) n)

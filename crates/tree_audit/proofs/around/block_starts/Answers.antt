@@ -3,7 +3,7 @@ use Rattle.std.proofs.Common.{◌≡◌, ℕ, [], length, get_or, Some, refl, su
 use Rattle.std.specs.Prelude.{slice_get}
 use Rattle.std.proofs.lemmas.Option.{slice_get-get_or}
 use Rattle.list_audit.specs.declared.listed.ListBlock.{ListBlock}
-use Rattle.tree_audit.specs.Around.{Adds, BeginsBlock}
+use Rattle.tree_audit.specs.Around.{AddsNumbers, BeginsBlock}
 use Rattle.tree_audit.proofs.Numbering.{are_all, one_block}
 use Rattle.tree_audit.proofs.around.block_starts.Goals as goal
 
@@ -19,5 +19,5 @@ returns c =
     let blocks = c.args.blocks.now in
     let all : c.loop-listed.listed-index ≡ length blocks = omega (arith, c.loop-listed-test.false, c.loop-listed.auto.listed-index-end) in
     are_all (BeginsBlock blocks (length blocks)) refl
-    (subst (λ (n : ℕ). Adds (BeginsBlock blocks n) [] c.loop-listed.starts.items) all c.loop-listed.invariant)
+    (subst (λ (n : ℕ). AddsNumbers (BeginsBlock blocks n) [] c.loop-listed.starts.items) all c.loop-listed.invariant)
     c.sort_once.ensures.rises c.sort_once.ensures.keeps c.sort_once.ensures.adds_none

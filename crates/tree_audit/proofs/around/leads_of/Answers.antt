@@ -2,8 +2,8 @@
 use Rattle.std.proofs.Common.{◌≡◌, ℕ, [], length, get_or, Some, refl, subst, arith}
 use Rattle.std.specs.Prelude.{slice_get}
 use Rattle.std.proofs.lemmas.Option.{slice_get-get_or}
-use Rattle.log_audit.specs.Kept.{image_of}
-use Rattle.tree_audit.specs.Around.{Adds, IsLeadAmong}
+use Rattle.log_audit.specs.Kept.{image_of_kept}
+use Rattle.tree_audit.specs.Around.{AddsNumbers, IsLeadAmong}
 use Rattle.tree_audit.specs.declared.nodes.LevelNode.{LevelNode}
 use Rattle.tree_audit.proofs.Closing.{node_inside}
 use Rattle.tree_audit.proofs.Numbering.{are_all, more_leads}
@@ -26,8 +26,8 @@ loop-place-preserved c =
 
 pub returns : goal.returns
 returns c =
-    let g = c.args.geometry.now in let image = image_of c.args.kept.now in let nodes = c.args.nodes.now in
+    let g = c.args.geometry.now in let image = image_of_kept c.args.kept.now in let nodes = c.args.nodes.now in
     let all : c.loop-place.place-index ≡ length nodes = omega (arith, c.loop-place-test.false, c.loop-place.auto.place-index-end) in
     are_all (IsLeadAmong g image nodes (length nodes)) refl
-    (subst (λ (n : ℕ). Adds (IsLeadAmong g image nodes n) [] c.loop-place.leads.items) all c.loop-place.invariant)
+    (subst (λ (n : ℕ). AddsNumbers (IsLeadAmong g image nodes n) [] c.loop-place.leads.items) all c.loop-place.invariant)
     c.sort_once.ensures.rises c.sort_once.ensures.keeps c.sort_once.ensures.adds_none

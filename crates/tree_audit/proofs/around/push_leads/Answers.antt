@@ -1,7 +1,7 @@
 -- A child cell that leads nowhere, one that leads to a node, and all of them.
 use Rattle.std.proofs.Common.{◌≡◌, ℕ, subst, arith}
-use Rattle.log_audit.specs.Kept.{image_of}
-use Rattle.tree_audit.specs.Around.{Adds, IsLeadOf}
+use Rattle.log_audit.specs.Kept.{image_of_kept}
+use Rattle.tree_audit.specs.Around.{AddsNumbers, IsLeadOf}
 use Rattle.tree_audit.proofs.Numbering.{leads_nowhere, leads_on}
 use Rattle.tree_audit.proofs.around.push_leads.Goals as goal
 
@@ -15,5 +15,5 @@ loop-place-preserved c = leads_on c.loop-place.invariant c.loop-place.auto.place
 pub returns : goal.returns
 returns c =
     let all : c.loop-place.place ≡ 32 = omega (arith, c.loop-place-test.false, c.loop-place.auto.place-end) in
-    subst (λ (p : ℕ). Adds (IsLeadOf c.args.geometry.now (image_of c.args.kept.now) c.args.node p) c.args.leads.now.items c.loop-place.leads.items)
+    subst (λ (p : ℕ). AddsNumbers (IsLeadOf c.args.geometry.now (image_of_kept c.args.kept.now) c.args.node p) c.args.leads.now.items c.loop-place.leads.items)
     all c.loop-place.invariant

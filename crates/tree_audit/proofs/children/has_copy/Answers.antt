@@ -1,6 +1,6 @@
 -- No journal cell names the cell; and the one that does holds the same, or not.
 use Rattle.std.proofs.Common.{◌+◌, ℕ, sym, ◌∙◌, ap}
-use Rattle.log_audit.specs.Kept.{image_of}
+use Rattle.log_audit.specs.Kept.{image_of_kept}
 use Rattle.log_audit.proofs.Deciding.{no}
 use Rattle.tree_audit.proofs.Leading.{same_copies}
 use Rattle.tree_audit.proofs.children.has_copy.Goals as goal
@@ -10,7 +10,7 @@ returns-in_default c = no (λ h. c.in_default.ensures h.place h.inside (same_cop
 
 pub returns : goal.returns
 returns c =
-    let image = image_of c.args.kept.now in
+    let image = image_of_kept c.args.kept.now in
     let there = c.in-Some.ensures in (
       λ yes. record {
         place = c.in-Some.place;

@@ -1,12 +1,12 @@
 -- A child cell that leads nowhere, one that leads to a node, and all of them.
 use Rattle.std.proofs.Common.{◌≡◌, ℕ, subst, arith}
-use Rattle.tree_audit.specs.Nodes.{AddsTargets}
-use Rattle.log_audit.specs.Kept.{image_of}
+use Rattle.tree_audit.specs.Nodes.{AddsChildTargets}
+use Rattle.log_audit.specs.Kept.{image_of_kept}
 use Rattle.tree_audit.proofs.Closing.{no_targets, no_child, one_child}
 use Rattle.tree_audit.proofs.nodes.push_targets.Goals as goal
 
 pub loop-place-init : goal.loop-place-init
-loop-place-init c = no_targets c.args.geometry.now (image_of c.args.kept.now) c.args.node c.args.targets.now.items
+loop-place-init c = no_targets c.args.geometry.now (image_of_kept c.args.kept.now) c.args.node c.args.targets.now.items
 
 pub loop-place-preserved-in_default : goal.loop-place-preserved-in_default
 loop-place-preserved-in_default c = no_child c.loop-place.invariant c.in_default.ensures
@@ -17,5 +17,5 @@ loop-place-preserved c = one_child c.loop-place.invariant c.loop-place.auto.plac
 pub returns : goal.returns
 returns c =
     let all : c.loop-place.place ≡ 32 = omega (arith, c.loop-place-test.false, c.loop-place.auto.place-end) in
-    subst (λ (p : ℕ). AddsTargets c.args.geometry.now (image_of c.args.kept.now) c.args.node p c.args.targets.now.items c.loop-place.targets.items)
+    subst (λ (p : ℕ). AddsChildTargets c.args.geometry.now (image_of_kept c.args.kept.now) c.args.node p c.args.targets.now.items c.loop-place.targets.items)
     all c.loop-place.invariant

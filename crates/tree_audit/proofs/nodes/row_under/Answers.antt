@@ -1,11 +1,11 @@
 -- No node yet, one more, and all of them.
 use Rattle.std.proofs.Common.{refl, arith}
-use Rattle.log_audit.specs.Kept.{image_of}
+use Rattle.log_audit.specs.Kept.{image_of_kept}
 use Rattle.tree_audit.proofs.Closing.{none_under, one_node, all_under}
 use Rattle.tree_audit.proofs.nodes.row_under.Goals as goal
 
 pub loop-node-init : goal.loop-node-init
-loop-node-init c = none_under c.args.geometry.now (image_of c.args.kept.now) c.args.row.now _ c.new-under.ensures.items
+loop-node-init c = none_under c.args.geometry.now (image_of_kept c.args.kept.now) c.args.row.now _ c.new-under.ensures.items
 
 pub loop-node-preserved : goal.loop-node-preserved
 loop-node-preserved c = one_node c.loop-node.invariant c.loop-node-test.true refl c.in_ok-push_targets.ensures

@@ -1,9 +1,9 @@
 -- The root; the path goes by the bucket, ends, goes on, and was followed to its last level.
 use Rattle.std.proofs.Common.{◌≡◌, ◌+◌, ℕ, sym, ◌∙◌, subst, arith}
 use Rattle.volume_meaning.specs.HashPaths.{nibble}
-use Rattle.log_audit.specs.Kept.{image_of}
+use Rattle.log_audit.specs.Kept.{image_of_kept}
 use Rattle.log_audit.proofs.Deciding.{no}
-use Rattle.tree_audit.specs.Nodes.{HasChild}
+use Rattle.tree_audit.specs.Nodes.{HasChildInPool}
 use Rattle.tree_audit.proofs.Pathing.{begins, one_step, ends_here}
 use Rattle.tree_audit.proofs.paths.goes_by.Goals.{else-at-node-via-then-at-node+else-nibble-x, else-at-node-via-else-at-node}
 use Rattle.tree_audit.proofs.paths.goes_by.Goals as goal
@@ -21,7 +21,7 @@ returns-in_default c =
       | else-at-node-via-else-at-node w ↦ λ same here. omega (arith, w.if-at-node.false, same)
     ] in
     no (ends_here c.loop-level.invariant c.loop-level-test.true differ
-    (λ target h. c.in_default.ensures target (subst (λ (x : ℕ). HasChild c.args.geometry.now (image_of c.args.kept.now) (c.loop-level.at + 16 + x) target) (sym by) h)))
+    (λ target h. c.in_default.ensures target (subst (λ (x : ℕ). HasChildInPool c.args.geometry.now (image_of_kept c.args.kept.now) (c.loop-level.at + 16 + x) target) (sym by) h)))
 
 pub loop-level-preserved : goal.loop-level-preserved
 loop-level-preserved c =
@@ -32,4 +32,4 @@ loop-level-preserved c =
       | else-at-node-via-else-at-node w ↦ λ same here. omega (arith, w.if-at-node.false, same)
     ] in
     one_step c.loop-level.invariant c.loop-level-test.true differ
-    (subst (λ (x : ℕ). HasChild c.args.geometry.now (image_of c.args.kept.now) (c.loop-level.at + 16 + x) c.in-Some.under) by c.in-Some.ensures)
+    (subst (λ (x : ℕ). HasChildInPool c.args.geometry.now (image_of_kept c.args.kept.now) (c.loop-level.at + 16 + x) c.in-Some.under) by c.in-Some.ensures)

@@ -1,6 +1,6 @@
 -- The block lies on the device; a blank place, the first that is broken, one that is kept, and all of them.
 use Rattle.std.proofs.Common.{◌≤◌, ◌<◌, ◌+◌, ℕ, refl, sym, ◌∙◌, arith}
-use Rattle.log_audit.specs.Kept.{image_of}
+use Rattle.log_audit.specs.Kept.{image_of_kept}
 use Rattle.tamper_rules.specs.Rules.{LeadsWell, Pointers}
 use Rattle.log_audit.proofs.Deciding.{decided_no, decided_yes}
 use Rattle.log_audit.proofs.Families.{fine_more, not_written}
@@ -26,7 +26,7 @@ leads_well-requires-clause-room c =
 
 pub returns-then-not-leads_well : goal.returns-then-not-leads_well
 returns-then-not-leads_well c =
-    let g = c.args.geometry.now in let image = image_of c.args.kept.now in
+    let g = c.args.geometry.now in let image = image_of_kept c.args.kept.now in
     let l = c.args.listed.now.list in let block = c.args.listed.now.block in
     let few : c.loop-pointer.pointer < 120 = omega (arith, c.loop-pointer-test.true) in
     first_of_part g image Pointers (PointerAsks g image l block) (λ (k : ℕ). block + (128 + k))
@@ -41,7 +41,7 @@ loop-pointer-preserved c = fine_more c.loop-pointer.invariant (λ _. decided_yes
 
 pub returns : goal.returns
 returns c =
-    let g = c.args.geometry.now in let image = image_of c.args.kept.now in
+    let g = c.args.geometry.now in let image = image_of_kept c.args.kept.now in
     let l = c.args.listed.now.list in let block = c.args.listed.now.block in
     part_met g image Pointers (PointerAsks g image l block) (λ (k : ℕ). block + (128 + k))
     (λ (k : ℕ). LeadsWell g image l block (level_of k) (digit_of k)) c.loop-pointer.pointer

@@ -4,10 +4,10 @@ use Rattle.cell_types.specs.Layout.{done_at}
 use Rattle.tamper_rules.specs.Rules.{Paths}
 use Rattle.document_store.specs.Heads.{id_of}
 use Rattle.volume_meaning.proofs.OneDocument.{one_document}
-use Rattle.log_audit.specs.Kept.{image_of}
+use Rattle.log_audit.specs.Kept.{image_of_kept}
 use Rattle.log_audit.proofs.Deciding.{decided_no, decided_yes}
 use Rattle.log_audit.proofs.Families.{met_all, first_rising}
-use Rattle.tree_audit.specs.Paths.{HasTrail}
+use Rattle.tree_audit.specs.Paths.{HasRootTrail}
 use Rattle.tree_audit.proofs.Trailing.{IsFound, one_trail, are_found, stands_slot}
 use Rattle.tree_audit.proofs.trails.first_broken_path.Goals as goal
 
@@ -17,15 +17,15 @@ loop-slot-preserved-in_default c =
 
 pub loop-slot-preserved-then-has_hash_trail : goal.loop-slot-preserved-then-has_hash_trail
 loop-slot-preserved-then-has_hash_trail c =
-    let g = c.args.geometry.now in let image = image_of c.args.kept.now in
+    let g = c.args.geometry.now in let image = image_of_kept c.args.kept.now in
     let slot = c.loop-slot.slot in let has = c.in-Some.ensures.some in
-    one_trail c.loop-slot.invariant (λ id body stands. subst (λ (i : List ℕ). HasTrail g image i slot)
+    one_trail c.loop-slot.invariant (λ id body stands. subst (λ (i : List ℕ). HasRootTrail g image i slot)
     (one_document g.cells image slot (id_of c.in-Some.head) has.body id body has.stands stands).0
     (decided_yes _ c.has_hash_trail.ensures c.if-has_hash_trail.true))
 
 pub returns-in-loop-slot : goal.returns-in-loop-slot
 returns-in-loop-slot c =
-    let g = c.args.geometry.now in let image = image_of c.args.kept.now in
+    let g = c.args.geometry.now in let image = image_of_kept c.args.kept.now in
     let slot = c.loop-slot.slot in let has = c.in-Some.ensures.some in
     let inside : slot < g.slots = omega (arith, c.loop-slot-test.true, c.slots-slot-end.ensures.slots) in
     first_rising g {image = image} Paths {at = done_at} {Fine = IsFound g image} {n = slot} {slots = g.slots} _
@@ -37,7 +37,7 @@ returns-in-loop-slot c =
 
 pub returns : goal.returns
 returns c =
-    let g = c.args.geometry.now in let image = image_of c.args.kept.now in
+    let g = c.args.geometry.now in let image = image_of_kept c.args.kept.now in
     met_all g {image = image} Paths {at = done_at} {Fine = IsFound g image} {n = c.loop-slot.slot}
     (λ cell h. λ n id body at stands. h n
     (let low = stands_slot c.requires.volume stands in omega (arith, low, c.loop-slot-test.false, c.slots-slot-end.ensures.slots)) at id body stands)

@@ -5,16 +5,16 @@ use Rattle.cell_types.specs.declared.record_cell.RecordCell.TheVariants as recor
 use Rattle.volume_meaning.specs.HashPaths.{nibble}
 use Rattle.volume_meaning.specs.Volumes.{Holds}
 use Rattle.document_store.specs.Heads.{id_of}
-use Rattle.log_audit.specs.Kept.{image_of}
+use Rattle.log_audit.specs.Kept.{image_of_kept}
 use Rattle.log_audit.proofs.Deciding.{no, yes, decided_no, decided_yes}
-use Rattle.tree_audit.specs.Nodes.{HasChild}
-use Rattle.tree_audit.specs.Paths.{IsOwn}
+use Rattle.tree_audit.specs.Nodes.{HasChildInPool}
+use Rattle.tree_audit.specs.Paths.{IsBucketOfSlot}
 use Rattle.tree_audit.proofs.Trailing.{no_bucket, own_bucket, not_passed, no_child, onward}
 use Rattle.tree_audit.proofs.trails.has_hash_trail.Goals as goal
 
 pub returns-in_default : goal.returns-in_default
 returns-in_default c =
-    let g = c.args.geometry.now in let image = image_of c.args.kept.now in let id = id_of c.args.head.now in
+    let g = c.args.geometry.now in let image = image_of_kept c.args.kept.now in let id = id_of c.args.head.now in
     let level = c.loop-level.level in let node = c.loop-level.node in
     let digest : c.digest-digest.result ≡ sha256 id = c.digest-digest.ensures ∙ ap sha256 c.identifier.ensures in
     let by : c.from-x.result ≡ nibble (sha256 id) level =
@@ -24,7 +24,7 @@ returns-in_default c =
 
 pub returns-then-is_own : goal.returns-then-is_own
 returns-then-is_own c =
-    let g = c.args.geometry.now in let image = image_of c.args.kept.now in let id = id_of c.args.head.now in
+    let g = c.args.geometry.now in let image = image_of_kept c.args.kept.now in let id = id_of c.args.head.now in
     let level = c.loop-level.level in let node = c.loop-level.node in
     let digest : c.digest-digest.result ≡ sha256 id = c.digest-digest.ensures ∙ ap sha256 c.identifier.ensures in
     let by : c.from-x.result ≡ nibble (sha256 id) level =
@@ -32,46 +32,46 @@ returns-then-is_own c =
     let b = c.in-Some.bucket in
     let held = subst (λ (x : ℕ). Holds image (node + x) (records.Bucket b.slot b.fingerprint)) by c.in-Some.ensures in
     yes (own_bucket c.loop-level.invariant c.loop-level-test.true b held
-    (subst (IsOwn b c.args.slot) digest (decided_yes _ c.is_own.ensures c.if-is_own.true)))
+    (subst (IsBucketOfSlot b c.args.slot) digest (decided_yes _ c.is_own.ensures c.if-is_own.true)))
 
 pub returns-then-not-is_passed : goal.returns-then-not-is_passed
 returns-then-not-is_passed c =
-    let g = c.args.geometry.now in let image = image_of c.args.kept.now in let id = id_of c.args.head.now in
+    let g = c.args.geometry.now in let image = image_of_kept c.args.kept.now in let id = id_of c.args.head.now in
     let level = c.loop-level.level in let node = c.loop-level.node in
     let digest : c.digest-digest.result ≡ sha256 id = c.digest-digest.ensures ∙ ap sha256 c.identifier.ensures in
     let by : c.from-x.result ≡ nibble (sha256 id) level =
     c.from-x.ensures ∙ c.nibble_of.ensures.same ∙ ap (λ (d : List ℕ). nibble d level) digest in
     let b = c.in-Some.bucket in
     let held = subst (λ (x : ℕ). Holds image (node + x) (records.Bucket b.slot b.fingerprint)) by c.in-Some.ensures in
-    let other : IsOwn b c.args.slot (sha256 id) → ⊥ = λ own. decided_no _ c.is_own.ensures c.if-is_own.false
-    (subst (IsOwn b c.args.slot) (sym digest) own) in
+    let other : IsBucketOfSlot b c.args.slot (sha256 id) → ⊥ = λ own. decided_no _ c.is_own.ensures c.if-is_own.false
+    (subst (IsBucketOfSlot b c.args.slot) (sym digest) own) in
     no (not_passed c.loop-level.invariant c.loop-level-test.true b held other (decided_no _ c.is_passed.ensures c.if-not-is_passed.true))
 
 pub returns-in_default-child_at : goal.returns-in_default-child_at
 returns-in_default-child_at c =
-    let g = c.args.geometry.now in let image = image_of c.args.kept.now in let id = id_of c.args.head.now in
+    let g = c.args.geometry.now in let image = image_of_kept c.args.kept.now in let id = id_of c.args.head.now in
     let level = c.loop-level.level in let node = c.loop-level.node in
     let digest : c.digest-digest.result ≡ sha256 id = c.digest-digest.ensures ∙ ap sha256 c.identifier.ensures in
     let by : c.from-x.result ≡ nibble (sha256 id) level =
     c.from-x.ensures ∙ c.nibble_of.ensures.same ∙ ap (λ (d : List ℕ). nibble d level) digest in
     let b = c.in-Some.bucket in
     let held = subst (λ (x : ℕ). Holds image (node + x) (records.Bucket b.slot b.fingerprint)) by c.in-Some.ensures in
-    let other : IsOwn b c.args.slot (sha256 id) → ⊥ = λ own. decided_no _ c.is_own.ensures c.if-is_own.false
-    (subst (IsOwn b c.args.slot) (sym digest) own) in
+    let other : IsBucketOfSlot b c.args.slot (sha256 id) → ⊥ = λ own. decided_no _ c.is_own.ensures c.if-is_own.false
+    (subst (IsBucketOfSlot b c.args.slot) (sym digest) own) in
     no (no_child c.loop-level.invariant c.loop-level-test.true b held other (λ target h. (c.in_default-child_at).ensures target
-    (subst (λ (x : ℕ). HasChild g image (node + 16 + x) target) (sym by) h)))
+    (subst (λ (x : ℕ). HasChildInPool g image (node + 16 + x) target) (sym by) h)))
 
 pub loop-level-preserved : goal.loop-level-preserved
 loop-level-preserved c =
-    let g = c.args.geometry.now in let image = image_of c.args.kept.now in let id = id_of c.args.head.now in
+    let g = c.args.geometry.now in let image = image_of_kept c.args.kept.now in let id = id_of c.args.head.now in
     let level = c.loop-level.level in let node = c.loop-level.node in
     let digest : c.digest-digest.result ≡ sha256 id = c.digest-digest.ensures ∙ ap sha256 c.identifier.ensures in
     let by : c.from-x.result ≡ nibble (sha256 id) level =
     c.from-x.ensures ∙ c.nibble_of.ensures.same ∙ ap (λ (d : List ℕ). nibble d level) digest in
     let b = c.in-Some.bucket in
     let held = subst (λ (x : ℕ). Holds image (node + x) (records.Bucket b.slot b.fingerprint)) by c.in-Some.ensures in
-    let other : IsOwn b c.args.slot (sha256 id) → ⊥ = λ own. decided_no _ c.is_own.ensures c.if-is_own.false
-    (subst (IsOwn b c.args.slot) (sym digest) own) in
+    let other : IsBucketOfSlot b c.args.slot (sha256 id) → ⊥ = λ own. decided_no _ c.is_own.ensures c.if-is_own.false
+    (subst (IsBucketOfSlot b c.args.slot) (sym digest) own) in
     let under = (c.in-Some-child_at).under in
     onward c.loop-level.invariant c.loop-level-test.true b held other (decided_yes _ c.is_passed.ensures c.if-not-is_passed.false) under
-    (subst (λ (x : ℕ). HasChild g image (node + 16 + x) under) by (c.in-Some-child_at).ensures)
+    (subst (λ (x : ℕ). HasChildInPool g image (node + 16 + x) under) by (c.in-Some-child_at).ensures)

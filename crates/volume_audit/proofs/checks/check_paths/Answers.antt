@@ -1,6 +1,6 @@
 -- What was found.
 use Rattle.std.proofs.Common.{arith}
-use Rattle.log_audit.specs.Kept.{image_of}
+use Rattle.log_audit.specs.Kept.{image_of_kept}
 use Rattle.tamper_rules.specs.Rules.{Documents, Paths}
 use Rattle.volume_audit.proofs.Passing.{passes}
 use Rattle.volume_audit.proofs.checks.check_paths.Goals as goal
@@ -9,4 +9,4 @@ pub first_broken_path-requires-clause-documents : goal.first_broken_path-require
 first_broken_path-requires-clause-documents c = c.requires.met Documents (omega arith)
 
 pub returns : goal.returns
-returns c = passes c.args.geometry.now (image_of c.args.kept.now) Paths c.first_broken_path.result c.refuse.result c.requires.met c.first_broken_path.ensures c.refuse.ensures
+returns c = passes c.args.geometry.now (image_of_kept c.args.kept.now) Paths c.first_broken_path.result c.refuse.result c.requires.met c.first_broken_path.ensures c.refuse.ensures

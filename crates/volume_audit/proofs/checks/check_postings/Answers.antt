@@ -1,6 +1,6 @@
 -- What was found.
 use Rattle.std.proofs.Common.{arith}
-use Rattle.log_audit.specs.Kept.{image_of}
+use Rattle.log_audit.specs.Kept.{image_of_kept}
 use Rattle.tamper_rules.specs.Rules.{Documents, Postings}
 use Rattle.volume_audit.proofs.Passing.{passes}
 use Rattle.volume_audit.proofs.checks.check_postings.Goals as goal
@@ -9,5 +9,5 @@ pub first_broken_posting-requires-clause-documents : goal.first_broken_posting-r
 first_broken_posting-requires-clause-documents g c = c.requires.met Documents (omega arith)
 
 pub returns : goal.returns
-returns g c = passes c.args.geometry.now (image_of c.args.kept.now) Postings c.in_ok-first_broken_posting.field-0 c.refuse.result c.requires.met
+returns g c = passes c.args.geometry.now (image_of_kept c.args.kept.now) Postings c.in_ok-first_broken_posting.field-0 c.refuse.result c.requires.met
     c.in_ok-first_broken_posting.ensures c.refuse.ensures

@@ -1,13 +1,13 @@
 -- What was found.
 use Rattle.std.proofs.Common.{arith}
-use Rattle.log_audit.specs.Kept.{image_of}
+use Rattle.log_audit.specs.Kept.{image_of_kept}
 use Rattle.tamper_rules.specs.Rules.{ReserveCells, StrayCells}
 use Rattle.volume_audit.proofs.Passing.{passes}
 use Rattle.volume_audit.proofs.checks.check_strays.Goals as goal
 
-pub first_stray-requires-clause-met : goal.first_stray-requires-clause-met
-first_stray-requires-clause-met c = c.requires.met ReserveCells (omega arith)
+pub first_broken_stray-requires-clause-met : goal.first_broken_stray-requires-clause-met
+first_broken_stray-requires-clause-met c = c.requires.met ReserveCells (omega arith)
 
 pub returns : goal.returns
-returns c = passes c.args.geometry.now (image_of c.args.kept.now) StrayCells c.in_ok-first_stray.field-0 c.refuse.result c.requires.met
-    c.in_ok-first_stray.ensures c.refuse.ensures
+returns c = passes c.args.geometry.now (image_of_kept c.args.kept.now) StrayCells c.in_ok-first_broken_stray.field-0 c.refuse.result c.requires.met
+    c.in_ok-first_broken_stray.ensures c.refuse.ensures

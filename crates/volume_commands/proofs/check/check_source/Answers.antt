@@ -5,7 +5,7 @@ use Rattle.cell_types.proofs.Passed.{handed}
 use Rattle.host_ports.specs.Sinks.{Gets, PutsPart}
 use Rattle.receipt_text.specs.Form.{refusal_of_receipt}
 use Rattle.receipt_text.specs.Listed.{AreListed}
-use Rattle.receipt_text.specs.Reading.{ReadEnds}
+use Rattle.receipt_text.specs.Reading.{ReadReceiptEnds}
 use Rattle.receipt_check.specs.Checks.{refusal_of_check}
 use Rattle.volume_commands.specs.Checking.{unread, untaken}
 use Rattle.volume_commands.specs.Taking.{refusal_of_body_fault}
@@ -27,8 +27,8 @@ returns-in_err-receipt g c =
     let fault = c.in_err-receipt.field-0.0 in
     rw (handed c.from_residual-in_err-receipt.result (refusal_of_receipt fault) c.from_residual-in_err-receipt.ensures.1)
     (unread c.in_ok-text.text.items fault body.0 body.1 body.2
-    (subst (λ (n : ℕ). ReadEnds n c.in_ok-text.text.items (Err fault)) c.cells.ensures.cells
-    (subst (λ (t : List ℕ). ReadEnds c.cells.result t (Err fault)) c.deref.ensures.value c.in_err-receipt.ensures)) refl refl
+    (subst (λ (n : ℕ). ReadReceiptEnds n c.in_ok-text.text.items (Err fault)) c.cells.ensures.cells
+    (subst (λ (t : List ℕ). ReadReceiptEnds c.cells.result t (Err fault)) c.deref.ensures.value c.in_err-receipt.ensures)) refl refl
     refl)
 
 -- the cells of the receipt are cells of the device
@@ -48,7 +48,7 @@ returns-in_err-checked g c =
     let refused = c.in_err-checked.field-0.0 in
     rw (handed c.from_residual-in_err-checked.result (refusal_of_check refused) c.from_residual-in_err-checked.ensures.1)
     (checked_as_read _ _ _ text c.cells.result r (Err refused) c.cells.ensures.cells
-    (subst (λ (t : List ℕ). ReadEnds c.cells.result t (Ok r)) c.deref.ensures.value c.in_ok-receipt.ensures) body.0 body.1
+    (subst (λ (t : List ℕ). ReadReceiptEnds c.cells.result t (Ok r)) c.deref.ensures.value c.in_ok-receipt.ensures) body.0 body.1
     body.2 c.in_err-checked.ensures (refl, refl))
 
 -- no memory was to be had for the line
@@ -59,7 +59,7 @@ returns-in_err-line g c =
     let r = c.in_ok-receipt.receipt in
     rw (handed c.from_residual-in_err-line.result NoMemory c.from_residual-in_err-line.ensures.1)
     (checked_as_read _ _ _ text c.cells.result r (Ok c.in_ok-checked.checked) c.cells.ensures.cells
-    (subst (λ (t : List ℕ). ReadEnds c.cells.result t (Ok r)) c.deref.ensures.value c.in_ok-receipt.ensures) body.0 body.1
+    (subst (λ (t : List ℕ). ReadReceiptEnds c.cells.result t (Ok r)) c.deref.ensures.value c.in_ok-receipt.ensures) body.0 body.1
     body.2 c.in_ok-checked.ensures refl)
 
 -- the sink failed
@@ -71,7 +71,7 @@ returns-in_err-put_text g c =
     let failed = c.from_residual-in_err-put_text in
     rw (handed failed.result SinkFault failed.ensures.1)
     (checked_as_read _ _ _ text c.cells.result r (Ok c.in_ok-checked.checked) c.cells.ensures.cells
-    (subst (λ (t : List ℕ). ReadEnds c.cells.result t (Ok r)) c.deref.ensures.value c.in_ok-receipt.ensures) body.0 body.1
+    (subst (λ (t : List ℕ). ReadReceiptEnds c.cells.result t (Ok r)) c.deref.ensures.value c.in_ok-receipt.ensures) body.0 body.1
     body.2 c.in_ok-checked.ensures
     (subst (λ (t : List ℕ). PutsPart t (g.K.Sink.state c.args.sink.now) (g.K.Sink.state c.put_text.new.sink))
     (c.deref-2.ensures.value ∙ c.in_ok-line.ensures) c.in_err-put_text.ensures.part))
@@ -83,7 +83,7 @@ returns g c =
     let text = c.in_ok-text.text.items in
     let r = c.in_ok-receipt.receipt in
     checked_as_read _ _ _ text c.cells.result r (Ok c.in_ok-checked.checked) c.cells.ensures.cells
-    (subst (λ (t : List ℕ). ReadEnds c.cells.result t (Ok r)) c.deref.ensures.value c.in_ok-receipt.ensures) body.0 body.1
+    (subst (λ (t : List ℕ). ReadReceiptEnds c.cells.result t (Ok r)) c.deref.ensures.value c.in_ok-receipt.ensures) body.0 body.1
     body.2 c.in_ok-checked.ensures
     (subst (λ (t : List ℕ). Gets (g.K.Sink.state c.args.sink.now).held (g.K.Sink.state c.put_text.new.sink).held t)
     (c.deref-2.ensures.value ∙ c.in_ok-line.ensures) c.in_ok-put_text.ensures.whole)

@@ -54,8 +54,8 @@ returns-then-states_other g c = record {
   to_called = c.read.ensures.called;
   to_held = read_held (g.met.E.Device.proper c.args.to.now) (g.met.E.Device.proper c.read.new.self)
       (read_once c.read.ensures);
-  complete = rw c.is_other.ensures (λ free. tt);
-  ends = rw c.is_other.ensures (is_another
+  complete = rw c.other_volume.ensures (λ free. tt);
+  ends = rw c.other_volume.ensures (is_another
       (λ tells. sym (c.in-Ok.ensures.answer (subst IsTrue c.read.ensures.called.tells tells)) ∙ c.in-Some.is)
       (subst (λ (n : ℕ). StatesOther c.args.slots c.args.lists c.version-version.result n c.in-Some.cell)
       c.cells.ensures.cells c.if-states_other.ensures)
@@ -64,36 +64,36 @@ returns-then-states_other g c = record {
 
 -- what was audited can be read
 pub compare-requires-clause-target : goal.compare-requires-clause-target
-compare-requires-clause-target g c = can_audited c.in-Ok-audit_volume.ensures.ends
+compare-requires-clause-target g c = can_audited c.in-Ok-audited_volume.ensures.ends
 
 -- it was compared
-pub returns-in-Ok-audit_volume : goal.returns-in-Ok-audit_volume
-returns-in-Ok-audit_volume g c =
+pub returns-in-Ok-audited_volume : goal.returns-in-Ok-audited_volume
+returns-in-Ok-audited_volume g c =
     begins_compared c.args.slots c.args.lists c.version-version.result c.in-Some.cell c.requires.source
     c.version-version.ensures.version c.read.ensures.called
     (λ tells. sym (c.in-Ok.ensures.answer tells) ∙ c.in-Some.is)
     (subst (λ (n : ℕ). StatesNone c.args.slots c.args.lists c.version-version.result n c.in-Some.cell)
     c.cells.ensures.cells c.if-states_other.ensures)
-    c.in-Ok-audit_volume.ensures.ends
+    c.in-Ok-audited_volume.ensures.ends
     (read_held (g.met.E.Device.proper c.args.to.now) (g.met.E.Device.proper c.read.new.self) (read_once c.read.ensures))
-    c.audit_volume.ensures.held (g.met.E.Device.proper c.args.to.now) (g.met.E.Device.proper c.read.new.self)
-    (g.met.E.Device.proper c.audit_volume.new.device) (g.met.E.Device.proper c.compare.new.to) c.compare.result
+    c.audited_volume.ensures.held (g.met.E.Device.proper c.args.to.now) (g.met.E.Device.proper c.read.new.self)
+    (g.met.E.Device.proper c.audited_volume.new.device) (g.met.E.Device.proper c.compare.new.to) c.compare.result
     c.compare.ensures
 
 -- it was not audited
-pub returns-in-Err-audit_volume : goal.returns-in-Err-audit_volume
-returns-in-Err-audit_volume g c = record {
+pub returns-in-Err-audited_volume : goal.returns-in-Err-audited_volume
+returns-in-Err-audited_volume g c = record {
   from_read = read_none _;
-  to_called = called_then c.read.ensures.called (refuses_called c.in-Err-audit_volume.ensures.ends);
+  to_called = called_then c.read.ensures.called (refuses_called c.in-Err-audited_volume.ensures.ends);
   to_held = held_then (g.met.E.Device.proper c.args.to.now) (g.met.E.Device.proper c.read.new.self)
-      c.read.ensures.called (refuses_called c.in-Err-audit_volume.ensures.ends)
+      c.read.ensures.called (refuses_called c.in-Err-audited_volume.ensures.ends)
       (read_held (g.met.E.Device.proper c.args.to.now) (g.met.E.Device.proper c.read.new.self) (read_once c.read.ensures))
-      c.audit_volume.ensures.held;
-  complete = rw c.to_target-in-Err-audit_volume.ensures (audit_free (g.met.E.Device.proper c.args.to.now)
+      c.audited_volume.ensures.held;
+  complete = rw c.to_target-in-Err-audited_volume.ensures (audit_free (g.met.E.Device.proper c.args.to.now)
       (g.met.E.Device.proper c.read.new.self) (read_once c.read.ensures)
-      (refuses_called c.in-Err-audit_volume.ensures.ends) c.in-Some.cell
-      (λ tells. sym (c.in-Ok.ensures.answer tells) ∙ c.in-Some.is) c.in-Err-audit_volume.refusal
-      c.in-Err-audit_volume.ensures.steady);
-  ends = rw c.to_target-in-Err-audit_volume.ensures (begin_refuses c.args.slots c.args.lists c.args.source.now _ _ _ _
-      c.in-Err-audit_volume.refusal (by_volume _ c.read.ensures.called c.in-Err-audit_volume.ensures.ends));
+      (refuses_called c.in-Err-audited_volume.ensures.ends) c.in-Some.cell
+      (λ tells. sym (c.in-Ok.ensures.answer tells) ∙ c.in-Some.is) c.in-Err-audited_volume.refusal
+      c.in-Err-audited_volume.ensures.steady);
+  ends = rw c.to_target-in-Err-audited_volume.ensures (begin_refuses c.args.slots c.args.lists c.args.source.now _ _ _ _
+      c.in-Err-audited_volume.refusal (by_volume _ c.read.ensures.called c.in-Err-audited_volume.ensures.ends));
 }

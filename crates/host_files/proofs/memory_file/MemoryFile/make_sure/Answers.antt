@@ -1,6 +1,6 @@
 use Rattle.std.proofs.Common.{ap, sym, ◌∙◌}
-use Rattle.host_files.specs.File.{Held}
-use Rattle.host_files.specs.Memory.{after_changes, all_sure}
+use Rattle.host_files.specs.File.{HeldBytes}
+use Rattle.host_files.specs.Memory.{held_after_all, all_sure}
 use Rattle.host_files.specs.declared.change.FileChange.TheVariants.{Synced}
 use Rattle.host_files.proofs.Changes.{after_append}
 use Rattle.host_files.proofs.memory_file.MemoryFile.make_sure.Goals as goal
@@ -10,5 +10,5 @@ invariant_of-self-clause-holds c =
     let file = c.args.self.now in
     let start = all_sure file.first.items in
     file.holds
-    ∙ ap (λ (h : Held). h.bytes) (sym (after_append start file.changes.items Synced))
-    ∙ ap (λ changes. (after_changes start changes).bytes) (sym c.push_reserved.ensures.items)
+    ∙ ap (λ (h : HeldBytes). h.bytes) (sym (after_append start file.changes.items Synced))
+    ∙ ap (λ changes. (held_after_all start changes).bytes) (sym c.push_reserved.ensures.items)

@@ -1,8 +1,8 @@
 use Rattle.std.proofs.Common.{length, ap, sym, ◌∙◌, subst, arith}
 use Rattle.std.proofs.lemmas.List.{with_items_is}
 use Rattle.cell_types.specs.Bytes.{AreBytes}
-use Rattle.host_files.specs.File.{Held, patched}
-use Rattle.host_files.specs.Memory.{after_changes, all_sure}
+use Rattle.host_files.specs.File.{HeldBytes, patched}
+use Rattle.host_files.specs.Memory.{held_after_all, all_sure}
 use Rattle.host_files.specs.declared.change.FileChange.TheVariants.{Put}
 use Rattle.host_files.proofs.Changes.{after_append}
 use Rattle.host_files.proofs.memory_file.MemoryFile.put.Goals as goal
@@ -14,8 +14,8 @@ invariant_of-self-clause-holds c =
     with_items_is file.bytes c.overwrite.new.bytes (omega arith)
     ∙ c.overwrite.ensures.put
     ∙ ap (patched c.args.from c.args.piece) (c.as_mut_slice.ensures.value ∙ file.holds)
-    ∙ ap (λ (h : Held). h.bytes) (sym (after_append start file.changes.items (Put c.args.from c.args.piece)))
-    ∙ ap (λ changes. (after_changes start changes).bytes) (sym c.push_reserved.ensures.items)
+    ∙ ap (λ (h : HeldBytes). h.bytes) (sym (after_append start file.changes.items (Put c.args.from c.args.piece)))
+    ∙ ap (λ changes. (held_after_all start changes).bytes) (sym c.push_reserved.ensures.items)
 
 pub invariant_of-self-clause-fits : goal.invariant_of-self-clause-fits
 invariant_of-self-clause-fits c =

@@ -2,7 +2,7 @@
 use Rattle.std.proofs.Common.{◌≡◌, ◌<◌, ◌≤◌, ℕ, Some}
 use Rattle.std.specs.Prelude.{slice_get}
 use Rattle.cell_types.specs.Image.{Image}
-use Rattle.jump_block.specs.Keeping.{AreKept}
+use Rattle.jump_block.specs.Keeping.{AreFrontsKept}
 use Rattle.jump_block.specs.Known.{IsKnown}
 use Rattle.jump_block.specs.declared.known_front.KnownFront.{KnownFront}
 use Rattle.jump_block.proofs.kept_fronts.KeptFronts.of_block.Given as goal
@@ -13,5 +13,5 @@ invariant-loop-front l = record {
   places : l.known.count ≤ 128;
   longest : (i : ℕ) (f : KnownFront) → i < l.front-index → slice_get l.self.held i ≡ Some f → f.block ≡ l.block
       → f.count ≤ 128 → f.count ≤ l.known.count;
-  known : (image : Image) → AreKept image l.self → IsKnown image l.known;
+  known : (image : Image) → AreFrontsKept image l.self → IsKnown image l.known;
 }

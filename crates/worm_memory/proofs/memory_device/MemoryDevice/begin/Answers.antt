@@ -6,7 +6,7 @@ use Rattle.std.proofs.lemmas.Bool.{leb-true}
 use Rattle.worm_memory.specs.Device.{memory_of}
 use Rattle.worm_memory.specs.Memory.{is_ample, mark_of}
 use Rattle.worm_memory.specs.declared.mark.Mark.{Mark}
-use Rattle.worm_memory.specs.Plans.{Plan, stands_if_reached, is_called_for, last_changes, last_faults, last_foreign_writes, plan_of}
+use Rattle.worm_memory.specs.Plans.{CommandPlan, stands_if_reached, is_called_for, last_changes, last_faults, last_foreign_writes, plan_of}
 use Rattle.worm_memory.specs.Worlds.{world}
 use Rattle.worm_memory.proofs.Accounts.{changes_append, faults_append, foreign_writes_append, none_yet}
 use Rattle.worm_memory.proofs.memory_device.MemoryDevice.begin.Goals as goal
@@ -64,7 +64,7 @@ pub invariant_of-self-clause-made : goal.invariant_of-self-clause-made
 invariant_of-self-clause-made c = λ is.
     let device = c.args.self.now in
     let calls = c.begin.new.self in
-    ap (λ (p : Plan). list_all (stands_if_reached calls.steps calls.calls (world device.changes.items).image) p.foreign)
+    ap (λ (p : CommandPlan). list_all (stands_if_reached calls.steps calls.calls (world device.changes.items).image) p.foreign)
     c.begin.ensures.plan
 
 pub invariant_of-self-clause-roomy : goal.invariant_of-self-clause-roomy

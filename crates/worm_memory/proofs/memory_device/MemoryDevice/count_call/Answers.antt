@@ -1,6 +1,6 @@
 -- While a call comes, the command does not go by its plan.
 use Rattle.std.proofs.Common.{ap, subst, sym, vec_len, arith}
-use Rattle.worm_memory.specs.Plans.{AreInside, Plan}
+use Rattle.worm_memory.specs.Plans.{AreWritesInside, CommandPlan}
 use Rattle.worm_memory.proofs.Accounts.{no_true, ordered_next}
 use Rattle.worm_memory.proofs.memory_device.MemoryDevice.count_call.Goals as goal
 
@@ -28,7 +28,7 @@ invariant_of-self-clause-made c = λ is. no_true c.args.self.now.by_plan is c.re
 pub invariant_of-self-clause-planned_inside : goal.invariant_of-self-clause-planned_inside
 invariant_of-self-clause-planned_inside c =
     let device = c.args.self.now in
-    subst (AreInside (vec_len device.cells)) (sym (ap (λ (p : Plan). p.foreign) c.count_call.ensures.plan))
+    subst (AreWritesInside (vec_len device.cells)) (sym (ap (λ (p : CommandPlan). p.foreign) c.count_call.ensures.plan))
     device.planned_inside
 
 pub invariant_of-self-clause-steps_fit : goal.invariant_of-self-clause-steps_fit

@@ -1,6 +1,6 @@
 -- Before the first call no call has failed, whatever is planned.
 use Rattle.std.proofs.Common.{◌≡◌, true, ap, sym, ◌∙◌, arith, List}
-use Rattle.worm_memory.specs.Plans.{Plan, failures_reached, may_fail, must_fail}
+use Rattle.worm_memory.specs.Plans.{CommandPlan, failures_reached, may_fail, must_fail}
 use Rattle.worm_memory.specs.declared.moment.Moment.{Moment}
 use Rattle.worm_memory.specs.declared.schedule.Schedule.{Schedule}
 use Rattle.worm_memory.proofs.Planning.{HasYetToCall, most_yet, some_yet, yet_to_call}
@@ -10,7 +10,7 @@ use Rattle.worm_memory.proofs.memory_device.MemoryDevice.fail_at.Goals.{In-Ok}
 yet : (c : In-Ok) → c.is_early-is_early.result ≡ true → HasYetToCall c.args.self.now
 yet c is = yet_to_call c.args.self.now c.is_early-is_early.result c.is_early-is_early.ensures is
 
-abbrev planned : In-Ok → Plan
+abbrev planned : In-Ok → CommandPlan
 planned c = let d = c.args.self.now.schedule in record {
   fails = c.push.new.self.items;
   stop = d.stop;
@@ -44,7 +44,7 @@ pub invariant_of-self-2-clause-made : goal.invariant_of-self-2-clause-made
 invariant_of-self-2-clause-made c = λ is. c.args.self.now.made (yet c is).by_plan
 
 -- where there was no memory nothing is planned
-abbrev with_fails : Schedule → List Moment → Plan
+abbrev with_fails : Schedule → List Moment → CommandPlan
 with_fails d l = record { fails = l; stop = d.stop; foreign = d.foreign.items }
 
 pub invariant_of-self-clause-none_failed : goal.invariant_of-self-clause-none_failed

@@ -1,12 +1,12 @@
 -- Before the first call no call has failed, whatever is planned.
 use Rattle.std.proofs.Common.{arith, ◌≡◌, ◌++◌, ◌∷◌, [], drop, true, vec_len, sym, subst, ap, ◌∙◌}
 use Rattle.std.specs.List.{count_by, list_all, list_any}
-use Rattle.worm_memory.specs.Plans.{AreInside, is_due, stands_if_reached, is_called_for, last_changes}
+use Rattle.worm_memory.specs.Plans.{AreWritesInside, is_due, stands_if_reached, is_called_for, last_changes}
 use Rattle.worm_memory.specs.Worlds.{world}
 use Rattle.worm_memory.specs.declared.moment.Timed.{Timed}
 use Rattle.worm_memory.proofs.Others.{inside_append}
 use Rattle.worm_memory.proofs.Following.{named_longer, none_come}
-use Rattle.worm_memory.specs.Plans.{Plan}
+use Rattle.worm_memory.specs.Plans.{CommandPlan}
 use Rattle.worm_memory.proofs.Planning.{HasYetToCall, most_yet, some_yet, yet_to_call}
 use Rattle.worm_memory.proofs.memory_device.MemoryDevice.foreign_before.Goals as goal
 use Rattle.worm_memory.proofs.memory_device.MemoryDevice.foreign_before.Goals.{In-Ok}
@@ -14,7 +14,7 @@ use Rattle.worm_memory.proofs.memory_device.MemoryDevice.foreign_before.Goals.{I
 yet : (c : In-Ok) → c.is_early-is_early.result ≡ true → HasYetToCall c.args.self.now
 yet c is = yet_to_call c.args.self.now c.is_early-is_early.result c.is_early-is_early.ensures is
 
-abbrev planned : In-Ok → Plan
+abbrev planned : In-Ok → CommandPlan
 planned c = let d = c.args.self.now.schedule in record {
   fails = d.fails.items;
   stop = d.stop;
@@ -66,7 +66,7 @@ invariant_of-self-2-clause-made c = λ is.
 pub invariant_of-self-2-clause-planned_inside : goal.invariant_of-self-2-clause-planned_inside
 invariant_of-self-2-clause-planned_inside c =
     let device = c.args.self.now in
-    subst (AreInside (vec_len device.cells)) (sym (pushed c))
+    subst (AreWritesInside (vec_len device.cells)) (sym (pushed c))
     (inside_append (vec_len device.cells) device.schedule.foreign.items (timed c) device.planned_inside c.requires)
 
 -- where there was no memory nothing is planned
@@ -97,4 +97,4 @@ invariant_of-self-clause-made c = λ is.
 pub invariant_of-self-clause-planned_inside : goal.invariant_of-self-clause-planned_inside
 invariant_of-self-clause-planned_inside c =
     let device = c.args.self.now in
-    subst (AreInside (vec_len device.cells)) (sym c.in_default.ensures.items) device.planned_inside
+    subst (AreWritesInside (vec_len device.cells)) (sym c.in_default.ensures.items) device.planned_inside

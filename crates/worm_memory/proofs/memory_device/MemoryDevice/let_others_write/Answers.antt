@@ -3,7 +3,7 @@ use Rattle.std.proofs.Common.{◌≡◌, ◌+◌, drop, false, Some, None, refl,
 use Rattle.std.specs.List.{slice_get}
 use Rattle.worm_memory.specs.Device.{memory_of, outcome, room_of}
 use Rattle.worm_memory.specs.Outcomes.{after_others}
-use Rattle.worm_memory.specs.Plans.{Plan}
+use Rattle.worm_memory.specs.Plans.{CommandPlan}
 use Rattle.worm_memory.specs.declared.memory_device.MemoryDevice.{MemoryDevice}
 use Rattle.worm_memory.proofs.Others.{next_others, no_others, past_others}
 use Rattle.worm_memory.proofs.memory_device.MemoryDevice.let_others_write.Goals as goal
@@ -13,7 +13,7 @@ pub returns-in_err-write_planned-clause-others : goal.returns-in_err-write_plann
 returns-in_err-write_planned-clause-others c =
     let planned = c.args.self.now.schedule.foreign.items in
     let here : slice_get planned c.loop-place.place ≡ Some c.in-Some.timed =
-    ap (λ (plan : Plan). slice_get plan.foreign c.loop-place.place) (sym c.loop-place.invariant.plan)
+    ap (λ (plan : CommandPlan). slice_get plan.foreign c.loop-place.place) (sym c.loop-place.invariant.plan)
     ∙ sym c.planned.ensures ∙ c.in-Some.is in
     let one = next_others c.args.is_step planned c.loop-place.place c.in-Some.timed (memory_of c.loop-place.self)
     (room_of c.loop-place.self) here in
@@ -28,7 +28,7 @@ loop-place-preserved c = elim c.match-planned.branch [
   | in-Some+in_ok-write_planned w ↦
       let planned = c.args.self.now.schedule.foreign.items in
       let here : slice_get planned c.loop-place.place ≡ Some w.in-Some.timed =
-      ap (λ (plan : Plan). slice_get plan.foreign c.loop-place.place) (sym c.loop-place.invariant.plan)
+      ap (λ (plan : CommandPlan). slice_get plan.foreign c.loop-place.place) (sym c.loop-place.invariant.plan)
       ∙ sym c.planned.ensures ∙ w.in-Some.is in
       let one = next_others c.args.is_step planned c.loop-place.place w.in-Some.timed (memory_of c.loop-place.self)
       (room_of c.loop-place.self) here in
@@ -48,7 +48,7 @@ loop-place-preserved c = elim c.match-planned.branch [
   | in_default w ↦
       let planned = c.args.self.now.schedule.foreign.items in
       let here : slice_get planned c.loop-place.place ≡ None =
-      ap (λ (plan : Plan). slice_get plan.foreign c.loop-place.place) (sym c.loop-place.invariant.plan)
+      ap (λ (plan : CommandPlan). slice_get plan.foreign c.loop-place.place) (sym c.loop-place.invariant.plan)
       ∙ sym c.planned.ensures ∙ w.in_default.is in
       record {
         others = ap (λ (device : MemoryDevice). after_others c.args.is_step (drop (c.loop-place.place + 1) planned)

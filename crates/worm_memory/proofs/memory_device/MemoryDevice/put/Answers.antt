@@ -5,7 +5,7 @@ use Rattle.worm_memory.proofs.Blanks.{blanks_set}
 use Rattle.worm_memory.specs.Unsure.{blanks}
 use Rattle.cell_types.specs.Bytes.{IsCell}
 use Rattle.worm_memory.specs.Unsure.{unsure_of}
-use Rattle.worm_memory.specs.Worlds.{blank, foreign_writes_in, world, AreChanges, Holds}
+use Rattle.worm_memory.specs.Worlds.{blank, foreign_writes_in, world, AreChanges, HasBecome}
 use Rattle.worm_memory.proofs.Worlds.{changes_append, put_is_change}
 use Rattle.worm_memory.proofs.Cells.{holds_put, unsure_put}
 use Rattle.worm_memory.specs.Plans.{stands_if_reached, is_called_for, last_changes}
@@ -27,7 +27,7 @@ invariant_of-self-clause-are_changes c =
 pub invariant_of-self-clause-holds : goal.invariant_of-self-clause-holds
 invariant_of-self-clause-holds c =
     let device = c.args.self.now in
-    subst (λ changes. Holds (set device.cells.items c.args.at (Some c.args.value)) (world changes).image)
+    subst (λ changes. HasBecome (set device.cells.items c.args.at (Some c.args.value)) (world changes).image)
     (sym c.push_reserved.ensures.items)
     (holds_put c.requires.is device.cells.items device.changes.items (omega arith) c.requires.free device.holds)
 

@@ -2,7 +2,7 @@
 use Rattle.std.proofs.Common.{sym, subst, ap, ◌∙◌, ◌∷◌, [], drop, refl, vec_len, arith}
 use Rattle.std.specs.List.{list_all}
 use Rattle.worm_memory.specs.Unsure.{unsure_of}
-use Rattle.worm_memory.specs.Worlds.{blank, foreign_writes_in, world, AreChanges, Holds}
+use Rattle.worm_memory.specs.Worlds.{blank, foreign_writes_in, world, AreChanges, HasBecome}
 use Rattle.worm_memory.specs.declared.change.Change.TheVariants.{Synced}
 use Rattle.worm_memory.proofs.Worlds.{changes_append}
 use Rattle.worm_memory.proofs.Counted.{in_both}
@@ -21,7 +21,7 @@ invariant_of-self-clause-are_changes c =
 pub invariant_of-self-clause-holds : goal.invariant_of-self-clause-holds
 invariant_of-self-clause-holds c =
     let device = c.args.self.now in
-    subst (λ changes. Holds device.cells.items (world changes).image) (sym c.push_reserved.ensures.items)
+    subst (λ changes. HasBecome device.cells.items (world changes).image) (sym c.push_reserved.ensures.items)
     (holds_synced device.cells.items device.changes.items device.holds)
 
 pub invariant_of-self-clause-are_unsure : goal.invariant_of-self-clause-are_unsure

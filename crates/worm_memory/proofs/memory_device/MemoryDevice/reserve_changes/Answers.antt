@@ -1,7 +1,7 @@
 -- The changes stay.
 use Rattle.std.proofs.Common.{sym, subst, ap, ◌∙◌, drop, vec_len}
 use Rattle.worm_memory.specs.Unsure.{unsure_of}
-use Rattle.worm_memory.specs.Worlds.{blank, foreign_writes_in, world, AreChanges, Holds}
+use Rattle.worm_memory.specs.Worlds.{blank, foreign_writes_in, world, AreChanges, HasBecome}
 use Rattle.std.specs.List.{list_all}
 use Rattle.worm_memory.specs.Plans.{stands_if_reached, is_called_for, last_changes}
 use Rattle.worm_memory.proofs.memory_device.MemoryDevice.reserve_changes.Goals as goal
@@ -14,7 +14,7 @@ invariant_of-self-clause-are_changes c =
 pub invariant_of-self-clause-holds : goal.invariant_of-self-clause-holds
 invariant_of-self-clause-holds c =
     let d = c.args.self.now in
-    subst (λ changes. Holds d.cells.items (world changes).image) (sym c.reserve.ensures.items) d.holds
+    subst (λ changes. HasBecome d.cells.items (world changes).image) (sym c.reserve.ensures.items) d.holds
 
 pub invariant_of-self-clause-are_unsure : goal.invariant_of-self-clause-are_unsure
 invariant_of-self-clause-are_unsure c =

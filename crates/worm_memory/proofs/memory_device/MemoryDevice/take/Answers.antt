@@ -8,7 +8,7 @@ use Rattle.worm_memory.specs.Proper.{is_device}
 use Rattle.worm_memory.specs.Unsure.{blanks, unsure_of}
 use Rattle.worm_memory.proofs.Blanks.{blanks_most}
 use Rattle.std.proofs.Common.{◌+◌, ◌≤◌}
-use Rattle.worm_memory.specs.Worlds.{blank, foreign_writes_in, world, AreChanges, Holds}
+use Rattle.worm_memory.specs.Worlds.{blank, foreign_writes_in, world, AreChanges, HasBecome}
 use Rattle.worm_memory.proofs.Counted.{crash_counted}
 use Rattle.worm_memory.proofs.Losing.{crash_follows, crash_leaves, each_inside, unsure_inside, unsure_crashed}
 use Rattle.worm_memory.proofs.Unsure.{right_world}
@@ -53,14 +53,14 @@ invariant_of-self-clause-holds c =
     let cut : take (vec_len device.cells) (c.lose.new.cells ++ kept) ≡ c.lose.new.cells =
     take-append-le (vec_len device.cells) c.lose.new.cells kept (omega arith)
     ∙ ap (λ n. take n c.lose.new.cells) (sym same) ∙ take-length c.lose.new.cells in
-    let holds : Holds (crash_cells keep unsure device.cells.items)
+    let holds : HasBecome (crash_cells keep unsure device.cells.items)
     (world (device.changes.items ++ crash_changes keep unsure)).image =
-    subst (λ now. Holds (crash_cells keep unsure device.cells.items) now.image)
+    subst (λ now. HasBecome (crash_cells keep unsure device.cells.items) now.image)
     (sym (after_row blank device.changes.items (crash_changes keep unsure)))
     (crash_leaves keep unsure device.cells.items (world device.changes.items) device.holds
     (λ cell among. let inside = unsure_inside (memory_of device) is right cell among in (omega arith, inside.1))) in
-    subst (λ cells. Holds cells (world c.lose.new.changes.items).image) (sym (cut ∙ left))
-    (subst (λ l. Holds (crash_cells keep unsure device.cells.items) (world l).image) (sym changes) holds)
+    subst (λ cells. HasBecome cells (world c.lose.new.changes.items).image) (sym (cut ∙ left))
+    (subst (λ l. HasBecome (crash_cells keep unsure device.cells.items) (world l).image) (sym changes) holds)
 
 pub invariant_of-self-clause-counted : goal.invariant_of-self-clause-counted
 invariant_of-self-clause-counted c =

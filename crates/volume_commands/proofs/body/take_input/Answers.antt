@@ -2,7 +2,7 @@
 use Rattle.std.proofs.Common.{arith, length-take}
 use Rattle.cell_types.proofs.Passed.{handed}
 use Rattle.volume_commands.proofs.Taken.{piece_failed, piece_too_long}
-use Rattle.volume_commands.proofs.body.take_body.Goals as goal
+use Rattle.volume_commands.proofs.body.take_input.Goals as goal
 
 pub returns-in_err-taken-clause-fails : goal.returns-in_err-taken-clause-fails
 returns-in_err-taken-clause-fails g c =

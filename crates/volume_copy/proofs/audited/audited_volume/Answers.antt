@@ -7,7 +7,7 @@ use Rattle.volume_copy.proofs.Unhindered.{audit_steady, read_steady, settle_stea
 use Rattle.volume_copy.proofs.WholeVolumes.{has_audited, settled_new, volume_b, walk_refuses}
 use Rattle.worm_device.proofs.Elapsing.{called_then}
 use Rattle.volume_copy.proofs.Stayed.{audit_held, held_then, read_held, settle_held}
-use Rattle.volume_copy.proofs.audited.audit_volume.Goals as goal
+use Rattle.volume_copy.proofs.audited.audited_volume.Goals as goal
 
 pub returns-in_err-_report-clause-ends : goal.returns-in_err-_report-clause-ends
 returns-in_err-_report-clause-ends g c =

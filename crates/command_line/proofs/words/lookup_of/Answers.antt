@@ -6,7 +6,7 @@ use Rattle.std.proofs.lemmas.Bool.{false≢true}
 use Rattle.worm_device.proofs.Compared.{alike}
 use Rattle.command_line.proofs.Listed.{two}
 use Rattle.command_line.proofs.Options.{no_option}
-use Rattle.command_line.proofs.words.look_up_of.Goals as goal
+use Rattle.command_line.proofs.words.lookup_of.Goals as goal
 
 pub returns-clause-some : goal.returns-clause-some
 returns-clause-some c =

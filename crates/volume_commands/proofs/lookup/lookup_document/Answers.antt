@@ -2,7 +2,7 @@
 use Rattle.std.proofs.Common.{Ok, Err, refl, rules}
 use Rattle.cell_types.proofs.Passed.{handed}
 use Rattle.volume_commands.specs.LookingUp.{looked}
-use Rattle.volume_commands.proofs.lookup.look_up_document.Goals as goal
+use Rattle.volume_commands.proofs.lookup.lookup_document.Goals as goal
 
 -- the look-up was ended, or found none
 pub returns-in_err-lookup_into : goal.returns-in_err-lookup_into

@@ -1,7 +1,7 @@
 use Rattle.std.proofs.Common.{sym}
 use Rattle.script_events.specs.Grammar.{SaysTimed}
 use Rattle.script_events.proofs.OneByOne.{one_more, none_such}
-use Rattle.script_events.proofs.lists.timeds_in.Goals as goal
+use Rattle.script_events.proofs.lists.planned_writes_in.Goals as goal
 
 pub returns-in_default : goal.returns-in_default
 returns-in_default c = λ x h.

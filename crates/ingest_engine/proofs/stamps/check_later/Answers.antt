@@ -2,7 +2,7 @@
 use Rattle.cell_types.proofs.Passed.{handed}
 use Rattle.cell_types.specs.Refusals.{refusal_of_fault}
 use Rattle.ingest_engine.proofs.ReadStamps.{compared, not_read}
-use Rattle.ingest_engine.proofs.stamps.look_past.Goals as goal
+use Rattle.ingest_engine.proofs.stamps.check_later.Goals as goal
 
 pub returns-in_err-last : goal.returns-in_err-last
 returns-in_err-last g c =

@@ -7,8 +7,8 @@ use Rattle.record_query.specs.LookingUp.{LooksUp}
 use Rattle.record_query.specs.declared.found.Found.{Found}
 
 -- a sink that does not tell what it holds, and of which no call fails
-abbrev pub unheard : SinkState
-unheard = record { held = None; faults = 0 }
+abbrev pub discard : SinkState
+discard = record { held = None; faults = 0 }
 
-abbrev pub LooksUpUnheard : List ℕ → DeviceState → DeviceState → Result Found Refusal → Type 0
-LooksUpUnheard id old new result = LooksUp id old new unheard unheard result
+abbrev pub LooksUpDiscarding : List ℕ → DeviceState → DeviceState → Result Found Refusal → Type 0
+LooksUpDiscarding id old new result = LooksUp id old new discard discard result

@@ -2,7 +2,7 @@
 use Rattle.std.proofs.Common.{◌≡◌, ◌+◌, ◌-◌, length}
 use Rattle.host_ports.specs.Sources.{Gives}
 use Rattle.volume_commands.specs.Taking.{AreBytesUpTo}
-use Rattle.volume_commands.proofs.body.take_body.Given as goal
+use Rattle.volume_commands.proofs.body.take_input.Given as goal
 
 abbrev pub invariant-loop-body : goal.invariant-loop-body
 invariant-loop-body g l =
