@@ -5,7 +5,7 @@ use cell_types::Cell;
 use host_files::{FileDevice, Hold, HostFile, Leaving, MemoryFile, OpenFault, OsFile, Pages};
 use std::alloc::{AllocError, Global};
 use std::fs::{Metadata, OpenFile};
-use std::io::ErrorKind;
+use std::io::{ErrorKind, Seek, SeekFrom};
 use std::os::unix::fs::FileExt;
 use std::process::Abort;
 use std::test::Fail;
@@ -327,6 +327,11 @@ impl<'a> Hold for LoggingFile<'a> {
         self.log(b'h');
         Ok(())
     }
+
+    fn try_hold(&self) -> io::Result<bool> {
+        self.log(b't');
+        Ok(true)
+    }
 }
 
 impl<'a> FileExt for LoggingFile<'a> {
@@ -339,6 +344,13 @@ impl<'a> FileExt for LoggingFile<'a> {
     fn write_at(&self, buf: &[u8], _offset: u64) -> io::Result<usize> {
         self.log(b'w');
         Ok(buf.len())
+    }
+}
+
+impl<'a> Seek for LoggingFile<'a> {
+    fn seek(&mut self, to: SeekFrom) -> io::Result<u64> {
+        self.log(if to == SeekFrom::End(0) { b'e' } else { b'?' });
+        Ok(self.size)
     }
 }
 
@@ -384,14 +396,14 @@ fn calls_of(rt: &(impl AllocGlobal + Abort), size: u64) -> Result<[u8; 16], Fail
 
 #[test]
 fn the_file_is_held_from_the_first_call_until_a_sync_fails(rt: HostRuntime) -> Result<(), Fail> {
-    assert_eq!(rt; &calls_of(&rt, 32)?, b"hmrrws..........");
+    assert_eq!(rt; &calls_of(&rt, 32)?, b"herrws..........");
     Ok(())
 }
 
 /// Each call takes the lock again, and finds the file cut short.
 #[test]
 fn a_file_that_was_cut_short_before_it_was_held_is_not_read(rt: HostRuntime) -> Result<(), Fail> {
-    assert_eq!(rt; &calls_of(&rt, 16)?, b"hmhmhmhmhm......");
+    assert_eq!(rt; &calls_of(&rt, 16)?, b"hehehehehe......");
     Ok(())
 }
 
@@ -413,10 +425,10 @@ fn a_row_takes_a_read_and_a_write_a_page(rt: HostRuntime) -> Result<(), Fail> {
         write_row(&rt, &mut device, 100, &values),
         Ok(RowWritten::Whole)
     );
-    assert_eq!(rt; &calls.get(), b"hmrwrwrw........");
+    assert_eq!(rt; &calls.get(), b"herwrwrw........");
     let mut found = vec![in rt.alloc(); None; 600]?;
     assert_eq!(rt; read_row(&rt, &mut device, 100, &mut found), Ok(()));
     assert_eq!(rt; read_row(&rt, &mut device, 100, &mut found), Ok(()));
-    assert_eq!(rt; &calls.get(), b"hmrwrwrwrrr.....");
+    assert_eq!(rt; &calls.get(), b"herwrwrwrrr.....");
     Ok(())
 }

@@ -5,16 +5,17 @@ ghost use Rattle.host_files.specs.Device.{SureStands};
 ghost use Rattle.host_files.specs.Pages.{Mirror};
 ghost use Rattle.std.proofs.Props.{props};
 
-use crate::{Hold, HostFile, OsFile, Pages};
+use crate::{Hold, HostFile, OsFile, Pages, open_file};
 use cell_types::MAX_CELLS;
 use std::fs::OpenFile;
+use std::io::Seek;
 use std::os::unix::fs::FileExt;
 use std::rt::Files;
 
 /// Why a file was not opened as a device.
 #[derive(Clone, Copy, Debug, PartialEq, Eq)]
 pub enum OpenFault {
-    /// The host refused: there is no such file, it may not be read and written, or it is a folder.
+    /// The host refused: there is no such file, it may not be read, or it is a folder or a pipe.
     Host,
     /// The file has room for so many cells, and a device has 1 to 2,147,483,648.
     Size(u64),
@@ -82,10 +83,11 @@ impl<F: HostFile + Drop> FileDevice<F> {
     }
 }
 
-impl<F: FileExt + OpenFile + Hold + Drop> FileDevice<OsFile<F>> {
+impl<F: FileExt + OpenFile + Seek + Hold + Drop> FileDevice<OsFile<F>> {
     ghost use Rattle.host_files.specs.declared.file_device.OpenFault.TheVariants.{Size};
 
-    /// Opens a file that exists as a device, for reading and writing. It neither makes nor empties one.
+    /// Opens a file that exists as a device, for reading and, where the host allows it, writing: else each write fails.
+    /// It neither makes nor empties a file.
     pub fn open<R: Files<File = F>>(
         rt: &R,
         path: &str,
@@ -93,7 +95,10 @@ impl<F: FileExt + OpenFile + Hold + Drop> FileDevice<OsFile<F>> {
     ) -> Result<FileDevice<OsFile<F>>, OpenFault>
         ensures { (cells : ℕ) → result ≡ Err (Size cells) → (cells ≡ 0) ⊎ (MAX_CELLS < cells) }
     {
-        match OsFile::open(rt, path) {
+        let Ok(file) = open_file(rt, path) else {
+            return Err(OpenFault::Host);
+        };
+        match OsFile::of(file) {
             Ok(file) => FileDevice::over(file, pages),
             Err(_) => Err(OpenFault::Host),
         }

@@ -50,5 +50,5 @@ pub use host_file::HostFile;
 pub use laws::crashes_are_seen;
 pub use memory_file::MemoryFile;
 pub use metered_file::MeteredFile;
-pub use os_file::{Hold, OsFile};
+pub use os_file::{Hold, OsFile, open_file};
 pub use pages::Pages;

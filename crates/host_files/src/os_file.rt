@@ -5,9 +5,12 @@
 //! The lock is taken before the first read, write or sync, so that whoever takes long to hand in a body holds nobody
 //! up, and is kept until the file is closed:
 //!
-//!     open          the number of bytes is read
-//!     first call    waits for the lock; the number of bytes is read again, and is to be the same
+//!     open          the number of bytes is where a seek to the end comes to, of a file as of a block device
+//!     first call    waits for the lock; the number of bytes is asked for again, and is to be the same
 //!     other calls   one call of the system each
+//!
+//! A file that the host lets nobody write, since it is not the user's, is marked so or lies on a medium or a mount that
+//! may only be read, is opened for reading alone. Each write of it fails then.
 //!
 //! A host may let go what it once refused to sync, and answer the next sync all the same. So after a sync that failed
 //! no call answers.
@@ -18,8 +21,8 @@ ghost use Rattle.host_files.specs.OsFile.{os_file_state};
 ghost use Rattle.host_files.specs.Proper.{is_file, untold};
 
 use crate::HostFile;
-use std::fs::{File, OpenFile, OpenOptions};
-use std::io;
+use std::fs::{File, OpenFile, OpenOptions, TryLockError};
+use std::io::{self, ErrorKind, Seek, SeekFrom};
 use std::os::unix::fs::FileExt;
 use std::rt::Files;
 use worm_device::Failed;
@@ -28,11 +31,22 @@ use worm_device::Failed;
 pub trait Hold {
     /// Waits until nobody else holds the file, and holds it until it is closed.
     fn hold(&self) -> io::Result<()>;
+
+    /// Holds the file until it is closed, unless somebody else holds it, and says whether it does.
+    fn try_hold(&self) -> io::Result<bool>;
 }
 
 impl Hold for File {
     fn hold(&self) -> io::Result<()> {
         self.lock()
+    }
+
+    fn try_hold(&self) -> io::Result<bool> {
+        match self.try_lock() {
+            Ok(()) => Ok(true),
+            Err(TryLockError::WouldBlock) => Ok(false),
+            Err(TryLockError::Error(error)) => Err(error),
+        }
     }
 }
 
@@ -56,21 +70,36 @@ pub struct OsFile<F> {
     access: Access,
 }
 
-impl<F: OpenFile + Drop> OsFile<F> {
+/// Opens a file that exists, for reading and writing, or for reading alone where the host refuses the writing. It neither
+/// makes nor empties one.
+pub fn open_file<R: Files>(rt: &R, path: &str) -> io::Result<R::File> {
+    let opened = match OpenOptions::new().read(true).write(true).open(rt, path) {
+        Err(error) if is_of_writing(error.kind()) => OpenOptions::new().read(true).open(rt, path)?,
+        done => done?,
+    };
+    // Where the program was started with a port closed, the file has got that port's number. A clone never has one of
+    // those, and the port is closed again once `opened` is.
+    opened.try_clone()
+}
+
+/// Whether the host gives this error where a file may be read and not written.
+fn is_of_writing(kind: ErrorKind) -> bool {
+    matches!(
+        kind,
+        ErrorKind::PermissionDenied | ErrorKind::ReadOnlyFilesystem
+    )
+}
+
+impl<F: Seek + Drop> OsFile<F> {
     ghost use Rattle.std.specs.Prelude.{IfOk};
     ghost use Rattle.host_files.specs.OsFile.{os_file_state};
     ghost use Rattle.host_files.specs.Proper.{untold};
 
-    /// Opens a file that exists, for reading and writing. It neither makes nor empties one. The host's error comes
-    /// where there is no such file, it may not be read and written, or it is a folder.
-    pub fn open<R: Files<File = F>>(rt: &R, path: &str) -> io::Result<OsFile<F>>
+    /// A file that is open already. The host's error comes where it has no length, as a pipe.
+    pub fn of(mut file: F) -> io::Result<OsFile<F>>
         ensures fresh { IfOk result (λ file. os_file_state file ≡ untold (os_file_state file).size 0) }
     {
-        let opened = OpenOptions::new().read(true).write(true).open(rt, path)?;
-        // Where the program was started with a port closed, the file has got that port's number. A clone never has
-        // one of those, and the port is closed again once `opened` is.
-        let file = opened.try_clone()?;
-        let size = file.metadata()?.len();
+        let size = file.seek(SeekFrom::End(0))?;
         Ok(OsFile::over(file, size))
     }
 }
@@ -79,7 +108,7 @@ impl<F> OsFile<F> {
     ghost use Rattle.host_files.specs.OsFile.{os_file_state};
     ghost use Rattle.host_files.specs.Proper.{untold};
 
-    /// A file that is open already, for reading and writing, and has so many bytes.
+    /// A file that is open already, and has so many bytes.
     pub fn over(file: F, size: u64) -> OsFile<F>
         ensures { os_file_state result ≡ untold size 0 }
     {
@@ -109,12 +138,12 @@ impl<F> OsFile<F> {
     }
 }
 
-impl<F: OpenFile + Hold> OsFile<F> {
+impl<F: OpenFile + Seek + Hold> OsFile<F> {
     ghost use Rattle.host_files.specs.OsFile.{os_file_state};
 
-    /// Takes the lock before the first call, and looks anew at what was read before it. Refuses all after a sync that
-    /// failed.
-    fn begin(&mut self) -> io::Result<()>
+    /// Takes the lock, unless it is held, and looks anew at what was read before it, as each call does first: for whoever
+    /// has to hold several files, and so in an order that all keep to. Refuses all after a sync that failed.
+    pub fn begin(&mut self) -> io::Result<()>
         ensures { os_file_state self.new ≡ os_file_state self.old }
     {
         match self.access {
@@ -122,7 +151,7 @@ impl<F: OpenFile + Hold> OsFile<F> {
             Access::Lost => Err(io::Error::from(io::ErrorKind::Other)),
             Access::Free => {
                 self.file.hold()?;
-                if self.file.metadata()?.len() != self.size {
+                if self.file.seek(SeekFrom::End(0))? != self.size {
                     return Err(io::Error::from(io::ErrorKind::Other));
                 }
                 self.access = Access::Held;
@@ -144,7 +173,7 @@ impl<F: OpenFile + Hold> OsFile<F> {
     }
 }
 
-impl<F: FileExt + OpenFile + Hold> HostFile for OsFile<F> {
+impl<F: FileExt + OpenFile + Seek + Hold> HostFile for OsFile<F> {
     ghost state = { os_file_state };
 
     fn size(&self) -> u64 {

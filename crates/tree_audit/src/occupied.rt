@@ -3,8 +3,7 @@ ghost use Rattle.std.specs.Prelude.{◌≡◌, ◌<◌, ◌≤◌, ◌↔◌, Is
 ghost use Rattle.log_audit.specs.Kept.{image_of_kept};
 ghost use Rattle.list_audit.specs.Blocks.{AreListBlocks};
 ghost use Rattle.tree_audit.specs.Nodes.{AreNodes};
-ghost use Rattle.tree_audit.specs.Occupied as occupied;
-ghost use Rattle.tree_audit.specs.Occupied.{AreOccupied, IsAlone, IsOffNodes};
+ghost use Rattle.tree_audit.specs.Occupied.{AreOccupied, IsAlone, IsOffNodes, occupied_number};
 ghost use Rattle.tree_audit.specs.declared.occupied.TheConstants.{BLOCK_STEP};
 ghost use Rattle.tree_audit.specs.Listing.{AreBlockNumbers, AreNodeCells};
 
@@ -97,7 +96,7 @@ fn block_numbers(alloc: Global, blocks: &[ListBlock]) -> Result<Vec<u64>, NoMemo
 
 /// The number of a block: no other block and list have it.
 fn number_of(listed: &ListBlock) -> u64
-    ensures is { result ≡ occupied.number_of listed.now.list listed.now.block }
+    ensures is { result ≡ occupied_number listed.now.list listed.now.block }
     ensures few { listed.now.list < BLOCK_STEP }
 {
     u64::from(listed.block) * BLOCK_STEP + u64::from(listed.list)

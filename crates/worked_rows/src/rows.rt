@@ -56,6 +56,8 @@ struct Saved {
 struct Row {
     name: String,
     world: Option<World>,
+    /// What was set aside: the source of copies.
+    aside: Option<World>,
     /// The first line that is not so.
     wrong: Option<String>,
     saved: Option<Saved>,
@@ -66,6 +68,7 @@ impl Row {
         Row {
             name: String::new(alloc),
             world: None,
+            aside: None,
             wrong: None,
             saved: None,
         }
@@ -81,6 +84,7 @@ impl Row {
         }
         self.name = String::from_str(alloc, name)?;
         self.world = None;
+        self.aside = None;
         Ok(self.wrong.take())
     }
 
@@ -126,6 +130,7 @@ impl Row {
             Step::Nothing => return Ok(true),
             Step::Device(cells) => return self.begin_device(alloc, *cells),
             Step::Saved => return self.begin_saved(alloc),
+            Step::Aside => return Ok(self.set_aside()),
             _ => {}
         }
         let Some(world) = &mut self.world else {
@@ -135,6 +140,10 @@ impl Row {
             Step::Answer(answer) => world.is_answered(alloc, answer),
             Step::Changed(change) => Ok(world.next_change() == *change),
             _ if world.has_more() => Ok(false),
+            Step::Act(Act::Command { words, times }) => match &mut self.aside {
+                Some(aside) => world.carry_out(alloc, words, *times, Some(&mut aside.device)),
+                None => world.carry_out(alloc, words, *times, None),
+            },
             Step::Act(act) => is_done(alloc, world, act),
             // `Save`: the others are answered above.
             _ => {
@@ -151,6 +160,17 @@ impl Row {
         }
         self.world = Some(World::new(alloc, cells)?);
         Ok(true)
+    }
+
+    /// Sets the device at hand aside, and takes the one that was there.
+    fn set_aside(&mut self) -> bool {
+        if self.world.is_none() || self.has_more() {
+            return false;
+        }
+        let world = self.world.take();
+        self.world = self.aside.take();
+        self.aside = world;
+        true
     }
 
     /// Begins a device with the cells that were saved.
@@ -192,7 +212,8 @@ fn is_done(alloc: Global, world: &mut World, act: &Act<'_>) -> Result<bool, Allo
         Act::Put(at, value) => return world.write_foreign(*at, *value),
         Act::Give(bytes) => bytes.push_onto(alloc, &mut world.given)?,
         Act::Plan(plan) => world.plans.push(*plan)?,
-        Act::Command { words, times } => return world.carry_out(alloc, words, *times),
+        // Carried out above, with what is aside.
+        Act::Command { .. } => return Ok(false),
         Act::Cell(at, value) => return Ok(world.found(*at) == Some(*value)),
         Act::Blank(from, to) => return Ok(world.are_blank(*from, *to)),
         Act::Written(count) => return Ok(world.written() == *count),

@@ -16,6 +16,8 @@ pub enum Step<'a> {
     Save,
     /// A device with just the cells that were kept.
     Saved,
+    /// That the device at hand is set aside, and the one that was aside, if any, is at hand.
+    Aside,
     /// What the command answered.
     Answer(Answer<'a>),
     /// The next change that it made to the device, or that there is none.
@@ -130,6 +132,7 @@ fn plain_step_of(text: &str) -> Option<Step<'_>> {
         "device" => Some(Step::Device(number(rest)?)),
         "save" if rest.is_empty() => Some(Step::Save),
         "saved" if rest.is_empty() => Some(Step::Saved),
+        "aside" if rest.is_empty() => Some(Step::Aside),
         ">~" => Some(Step::Answer(Answer::PutsPartOf(rest))),
         "!" => Some(Step::Answer(Answer::Refuses(rest))),
         "=" => Some(Step::Answer(Answer::IsOneOf(rest))),

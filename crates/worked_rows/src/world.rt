@@ -6,8 +6,9 @@ use crate::parts::number;
 use crate::steps::{Answer, Bytes, Plan};
 use cell_types::{Cell, NoMemory};
 use host_ports::{MemorySink, MemorySource};
-use record_top::{Outcome, run};
+use record_top::{run, run_two};
 use std::alloc::{AllocError, Global};
+use std::fmt::Display;
 use worm_device::{Device, Written};
 use worm_memory::{Change, MemoryDevice};
 
@@ -108,12 +109,13 @@ impl World {
     }
 
     /// Carries out the words, of which the last one is so many times that text, over what is given and by what is planned,
-    /// and keeps the answer. Says whether all of the plan is of this device.
+    /// and keeps the answer. A copy is one from the other device to this. Says whether all of the plan is of this device.
     pub fn carry_out(
         &mut self,
         alloc: Global,
         words: &str,
         times: u32,
+        other: Option<&mut MemoryDevice>,
     ) -> Result<bool, AllocError> {
         let words = words_of(alloc, words, times)?;
         let mut source = self.source(alloc)?;
@@ -122,8 +124,20 @@ impl World {
         let is_planned = self.plan()?;
         self.before = self.device.changes().len();
         self.told = 0;
-        let outcome = run(alloc, &words, &mut self.device, &mut source, &mut sink);
-        self.refused = line_of(alloc, outcome)?;
+        let is_copy = words.first().is_some_and(|word| word.as_str() == "copy");
+        self.refused = match other {
+            Some(other) if is_copy => {
+                begin(other, self.room)?;
+                match run_two(alloc, &words, other, &mut self.device, &mut sink) {
+                    Ok(()) => None,
+                    Err(refusal) => Some(line_of(alloc, refusal.status(), &refusal)?),
+                }
+            }
+            _ => match run(alloc, &words, &mut self.device, &mut source, &mut sink) {
+                Ok(()) => None,
+                Err(refusal) => Some(line_of(alloc, refusal.status(), &refusal)?),
+            },
+        };
         self.put = bytes_of(alloc, sink.bytes())?;
         self.read = 0;
         begin(&mut self.device, self.room)?;
@@ -279,11 +293,8 @@ fn bytes_of(alloc: Global, bytes: &[u8]) -> Result<Vec<u8>, AllocError> {
 }
 
 /// The status and the line of a refusal.
-fn line_of(alloc: Global, outcome: Outcome) -> Result<Option<String>, AllocError> {
-    match outcome {
-        Ok(()) => Ok(None),
-        Err(refusal) => Ok(Some(format!(in alloc; "{} {refusal}", refusal.status())?)),
-    }
+fn line_of(alloc: Global, status: u8, refusal: &impl Display) -> Result<String, AllocError> {
+    format!(in alloc; "{status} {refusal}")
 }
 
 /// Begins a command on a device, with room for so many changes.

@@ -33,70 +33,16 @@
 //! words that are no command, 5 a file that cannot be opened, and every other is that of `run`'s refusal.
 #![tactic(auto)]
 
-mod terminal;
-
-use cell_types::{CopyRefusal, Refusal};
-use host_files::{FileDevice, Hold, MeteredFile, OsFile, Pages};
+use host_files::Hold;
 use host_ports::{StdSink, StdSource};
-use record_top::{run, run_over_file, run_two_over_files};
-use std::alloc::Global;
-use std::io::Stderr;
-use std::os::unix::fs::{FileExt, MetadataExt};
+use program::{Fault, carry_out, words};
+use std::io::{self, Seek, Stderr};
+use std::os::unix::fs::FileExt;
 use std::process::ExitCode;
 use std::rt::{Env, Files};
-use std::{env, io};
-use terminal::Terminal;
-use thiserror::Error;
-use worm_device::Device;
-use worm_memory::MemoryDevice;
-
-/// Why a command was not done.
-#[derive(Clone, Copy, Debug, Error)]
-enum Fault {
-    #[error("usage: worm IMAGE format SLOTS LISTS [VERSION], ingest ID [SECONDS], find WORD.., lookup ID, audit, recover, replay, exercise N, receipt ID, check, between FROM TO, copy TARGET SLOTS LISTS")]
-    Usage,
-    #[error("image cannot be opened")]
-    Image,
-    #[error("target is the image itself")]
-    SameFile,
-    #[error(transparent)]
-    Refused(Refusal),
-    #[error(transparent)]
-    NotCopied(CopyRefusal),
-}
-
-impl From<Refusal> for Fault {
-    fn from(refusal: Refusal) -> Fault {
-        match refusal {
-            Refusal::Usage => Fault::Usage,
-            refused => Fault::Refused(refused),
-        }
-    }
-}
-
-impl From<CopyRefusal> for Fault {
-    fn from(refusal: CopyRefusal) -> Fault {
-        match refusal {
-            CopyRefusal::Usage => Fault::Usage,
-            refused => Fault::NotCopied(refused),
-        }
-    }
-}
-
-impl Fault {
-    /// The status that the program ends with.
-    fn status(&self) -> u8 {
-        match self {
-            Fault::Usage | Fault::SameFile => Refusal::Usage.status(),
-            Fault::Image => Refusal::DeviceFault.status(),
-            Fault::Refused(refusal) => refusal.status(),
-            Fault::NotCopied(refusal) => refusal.status(),
-        }
-    }
-}
 
 fn main(rt: HostRuntime) -> ExitCode {
-    match carry_out(&rt, rt.stderr()) {
+    match begin(&rt, rt.stderr()) {
         Ok(()) => ExitCode::SUCCESS,
         Err(fault) => {
             // Where the line cannot be shown, the status still tells.
@@ -106,117 +52,13 @@ fn main(rt: HostRuntime) -> ExitCode {
     }
 }
 
-/// Opens the device that the first word names, and carries out the command that the others ask for. How far it is goes
-/// to standard error.
-fn carry_out(
-    rt: &(impl Env + Files<File: FileExt + Hold> + Input + Print + AllocGlobal),
+/// Carries out what the program's words ask for, with standard input and standard output.
+fn begin(
+    rt: &(impl Env + Files<File: FileExt + Hold + Seek> + Input + Print + AllocGlobal),
     standard_error: Stderr,
 ) -> Result<(), Fault> {
-    let mut words = words(rt)?;
-    if words.is_empty() {
-        return Err(Fault::Usage);
-    }
-    let image = words.remove(0);
-    if words.first().is_some_and(|word| word.as_str() == "copy") {
-        return copy(rt, standard_error, image.as_str(), words);
-    }
-    let alloc = rt.alloc();
+    let words = words(rt)?;
     let mut source = StdSource::new(rt.reader());
     let mut sink = StdSink::new(io::writer(rt));
-    if image.as_str() == "-" {
-        let mut device = MemoryDevice::new(alloc, 1).map_err(|_| Refusal::NoMemory)?;
-        run(alloc, &words, &mut device, &mut source, &mut sink)?;
-        return Ok(());
-    }
-    let meter = if reads_all(&words) {
-        Terminal::new(standard_error)
-    } else {
-        Terminal::off()
-    };
-    let mut device = open(rt, image.as_str(), meter)?;
-    let mut meter = Terminal::new(standard_error);
-    run_over_file(
-        alloc,
-        &words,
-        &mut device,
-        &mut source,
-        &mut sink,
-        &mut meter,
-    )?;
-    Ok(())
-}
-
-/// Whether the command looks at each cell once, in rising order: how far its reads have come says how far it is.
-fn reads_all(words: &[String]) -> bool {
-    words
-        .first()
-        .is_some_and(|word| matches!(word.as_str(), "format" | "audit"))
-}
-
-/// Copies the volume in one file to another, the target, whose path stands behind the first word.
-fn copy(
-    rt: &(impl Files<File: FileExt + Hold> + Print + AllocGlobal),
-    standard_error: Stderr,
-    image: &str,
-    mut words: Vec<String>,
-) -> Result<(), Fault> {
-    if words.len() < 2 {
-        return Err(Fault::Usage);
-    }
-    let target = words.remove(1);
-    if image.starts_with('-') || target.as_str().starts_with('-') {
-        return Err(Fault::Usage);
-    }
-    // The second device would wait for the first to let go of the file.
-    if is_one_file(rt, image, target.as_str()) {
-        return Err(Fault::SameFile);
-    }
-    // Each is read from end to end first: audited, or the target formatted.
-    let mut from = open(rt, image, Terminal::new(standard_error))?;
-    let mut to = open(rt, target.as_str(), Terminal::new(standard_error))?;
-    let mut sink = StdSink::new(io::writer(rt));
-    let mut meter = Terminal::new(standard_error);
-    run_two_over_files(
-        rt.alloc(),
-        &words,
-        &mut from,
-        &mut to,
-        &mut sink,
-        &mut meter,
-    )?;
-    Ok(())
-}
-
-/// Whether both paths lead to one file.
-fn is_one_file(rt: &impl Files, one: &str, other: &str) -> bool {
-    let (Ok(one), Ok(other)) = (rt.metadata(one), rt.metadata(other)) else {
-        return false;
-    };
-    one.dev() == other.dev() && one.ino() == other.ino()
-}
-
-/// Opens a file that exists as a device, whose reads are told to this meter. A word with a hyphen in front is meant as
-/// an option, and the program has none.
-fn open<R: Files<File: FileExt + Hold> + AllocGlobal>(
-    rt: &R,
-    path: &str,
-    meter: Terminal,
-) -> Result<FileDevice<MeteredFile<OsFile<R::File>, Terminal>>, Fault> {
-    if path.starts_with('-') {
-        return Err(Fault::Usage);
-    }
-    let pages = Pages::new(rt.alloc()).map_err(|_| Refusal::NoMemory)?;
-    let file = OsFile::open(rt, path).map_err(|_| Fault::Image)?;
-    FileDevice::over(MeteredFile::new(file, meter), pages).map_err(|_| Fault::Image)
-}
-
-/// The words behind the program's name. Words that are no UTF-8 are no command.
-fn words(rt: &(impl Env + AllocGlobal)) -> Result<Vec<String>, Refusal> {
-    let mut all = match env::args(rt) {
-        Ok(all) => all,
-        Err(error) if error.kind() == io::ErrorKind::OutOfMemory => return Err(Refusal::NoMemory),
-        Err(_) => return Err(Refusal::Usage),
-    };
-    let _ = all.next();
-    all.collect(rt.alloc()).map_err(|_| Refusal::NoMemory)
+    carry_out(rt, words, &mut source, &mut sink, standard_error)
 }

@@ -1,0 +1,29 @@
+//! What the program does with its words, its files and its ports, and how it ends. A program is a few lines over it: it
+//! hands in its own words, what its commands take their input from, and where their output goes.
+//!
+//! The first word names a device, the others ask for a command. With the words `volume.img`, `find` and `hello`
+//!
+//!     opens      volume.img, a file that exists, as a device, for reading and writing, or for reading alone
+//!     calls      run_over_file with the words `find`, `hello`
+//!     puts out   0 a 11
+//!                1 found
+//!
+//! and with `nothing.img` in front, where no such file is, it ends with `Fault::Image`: the line `image cannot be opened`
+//! and the status 5. Where the first word is `-`, the device is one blank cell in memory. A `copy` has a second file.
+//!
+//! No clause says what a file of the operating system holds, nor so what the program does to it: that is said of `run` and
+//! `run_two` over any file, and shown here by the transcript of `worked_files`, which the gate compares.
+//!
+//! Stands on `record_top`, which carries commands out, and on `host_files`. Begin with `carrying.rt`.
+#![tactic(auto)]
+
+mod carrying;
+mod fault;
+mod opening;
+mod terminal;
+mod waiting;
+mod words;
+
+pub use carrying::carry_out;
+pub use fault::Fault;
+pub use words::words;
