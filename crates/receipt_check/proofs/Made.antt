@@ -114,7 +114,7 @@ module _ (id : List ℕ) (found : Found) (old mid new : DeviceState) (looks : Lo
 
   -- memory lacked
   pub unmade : MakesReceipt id old new (Err NoMemory)
-  unmade = come (Err NoMemory) tt tt
+  unmade = come (Err NoMemory) (λ tells. (found.slot, looks.ends.body, looked tells)) tt
 
   -- a read failed
   pub unread : Rose mid.faults new.faults → MakesReceipt id old new (Err DeviceFault)

@@ -1,5 +1,5 @@
 -- How the check of a receipt may end, and why.
-use Rattle.std.specs.Prelude.{◌≡◌, ◌≢◌, ◌<◌, ℕ, List, [], ◌∷◌, length, Some, Result, Ok, Err, IsTrue, ⊤}
+use Rattle.std.specs.Prelude.{◌≡◌, ◌≢◌, ◌<◌, ℕ, List, [], ◌∷◌, length, Some, Result, Ok, Err, IsTrue}
 use Rattle.cell_types.specs.Image.{Extends, IsUnchanged}
 use Rattle.cell_types.specs.declared.refusal.Refusal.{Refusal}
 use Rattle.cell_types.specs.declared.refusal.Refusal.TheVariants as refusals
@@ -58,7 +58,7 @@ pub record IsAccepted (r : Receipt) (old new : DeviceState) (done : Checked) : T
   pub stand : IsTrue old.tells → Extends (listed_image r.cells) new.image
   pub kept : IsTrue old.tells → Kept new.cells new.image (document_of r.slot r.identifier body ∷ [])
 
--- How a check may end, and why.
+-- How a check may end, and why. Memory is wanted once all listed cells were found to stand, so its want hides no other cell.
 abbrev pub CheckAnswer : Receipt → DeviceState → DeviceState → Result Checked CheckRefusal → Type 0
 CheckAnswer r old new (Ok done) = IsAccepted r old new done
 CheckAnswer r old new (Err (CellDiffers c)) = IsTrue old.tells → IsFirstCellToDiffer r.cells new c
@@ -66,7 +66,7 @@ CheckAnswer r old new (Err (NotShown n)) =
     (n ≡ r.slot) × ((body : List ℕ) → ShowsDocument old.cells r body → ⊥)
     × (IsTrue old.tells → Extends (listed_image r.cells) new.image)
 CheckAnswer r old new (Err DeviceFault) = Rose old.faults new.faults
-CheckAnswer r old new (Err NoMemory) = ⊤
+CheckAnswer r old new (Err NoMemory) = IsTrue old.tells → Extends (listed_image r.cells) new.image
 
 -- A check writes nothing: where nobody else writes, the same stands in each cell at its exit.
 pub record ChecksReceipt (r : Receipt) (old new : DeviceState) (result : Result Checked CheckRefusal) : Type 0 where

@@ -46,7 +46,7 @@ pub record IsUnkept (id : List ℕ) (old new : DeviceState) (cell : ℕ) : Type 
   pub before : (other : List ℕ) → Kept old.cells old.image (document_of slot id other ∷ []) → ⊥
   pub alone : IsStill old.foreign_writes new.foreign_writes → TrailRule first.first.layout new.image slot body → ⊥
 
--- How the making of a receipt may end, and why. Want of memory is free.
+-- How the making of a receipt may end, and why. Memory is wanted once the document was looked up.
 abbrev pub MakeEnds : List ℕ → DeviceState → DeviceState → Result Receipt Refusal → Type 0
 MakeEnds id old new (Ok r) = IsReceiptOn new.cells r × IsReceiptOf id old new r
 MakeEnds id old new (Err Absent) = IsTrue old.tells → IsAbsent id old new
@@ -54,7 +54,7 @@ MakeEnds id old new (Err (Tampered e)) =
     IsTrue old.tells → IsLicensed old new e × (e.rule ≡ MISSING_TRAIL → IsUnkept id old new e.cell)
 MakeEnds id old new (Err (ReceiptTooLong count)) = IsTooLong id old new count
 MakeEnds id old new (Err DeviceFault) = Rose old.faults new.faults
-MakeEnds id old new (Err NoMemory) = ⊤
+MakeEnds id old new (Err NoMemory) = IsTrue old.tells → (n : ℕ) × (body : List ℕ) × IsLookedUp id body n old new
 MakeEnds id old new (Err NotFormatted) = SettleEnds old new (Err NotFormatted)
 MakeEnds id old new (Err (NotAVolume found)) = SettleEnds old new (Err (NotAVolume found))
 MakeEnds id old new (Err (WrongSize stated real)) = SettleEnds old new (Err (WrongSize stated real))

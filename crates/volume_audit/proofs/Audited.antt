@@ -27,7 +27,7 @@ use Rattle.log_audit.specs.Kept.{KeepEnds, IsKeptBetween, image_of_kept, count_o
 use Rattle.log_audit.specs.declared.kept.KeptCells.{KeptCells}
 use Rattle.log_audit.specs.Findings.{IsFirstBroken}
 use Rattle.log_audit.specs.Logs.{IsUnended}
-use Rattle.volume_audit.specs.Audits.{AuditEnds, Audits, settled, settling}
+use Rattle.volume_audit.specs.Audits.{AuditEnds, Audits, WasSound, settled, settling}
 use Rattle.tamper_rules.specs.Settling.{IsSettled}
 use Rattle.volume_audit.specs.Judging.{Judges}
 use Rattle.volume_audit.specs.Reports.{IsReport}
@@ -58,8 +58,8 @@ module _ {old mid new : DeviceState} (r : Ready) (settles : Settles old mid (Ok 
   has_settled : HasSettled old new r
   has_settled = record { settled = mid; settles = settles; looked = called; quiet = unchanged }
 
-  audited : {result : Result AuditReport Refusal} → AuditEnds old new result → Audits old new result
-  audited ends = record { called = called_then settles.called called; comes = settled r has_settled ends }
+  audited : {refusal : Refusal} → AuditEnds old new (Err refusal) → Audits old new (Err refusal)
+  audited ends = record { called = called_then settles.called called; comes = settled r has_settled ends; was = tt }
 
   -- not each cell was read
   pub unkept : (refusal : Refusal) → KeepEnds mid new (Err refusal) → Audits old new (Err refusal)
@@ -153,9 +153,30 @@ module _ {old mid new : DeviceState} (r : Ready) (settles : Settles old mid (Ok 
       ended (Err refusals.NoMemory) judges = judges
       ended (Err refusal) judges = absurd judges
 
+      was : (result : Result AuditReport Refusal) → Judges g (image_of_kept kept) result → WasSound old new result
+      was (Ok report) judges = λ tells. (
+        image_of_kept kept,
+        record { keeps = λ cell value is. (is_kept tells).above.keeps cell value (settles.called.image.keeps cell value is) },
+        (is_kept tells).below,
+        record {
+          layout = g;
+          volume = record {
+            volume = volume.volume;
+            size = ap (λ (h : Layout). h.cells) (same_layout tells) ∙ (was_volume tells).size ∙ settles.called.cells;
+          };
+          settled = judges.0;
+          report = judges.1;
+        },
+      )
+      was (Err refusal) judges = tt
+
       pub audits : (result : Result AuditReport Refusal) → Judges g (image_of_kept kept) result → Audits old new result
-      audits result judges = audited (ended result judges)
+      audits result judges = record {
+        called = called_then settles.called called;
+        comes = settled r has_settled (ended result judges);
+        was = was result judges;
+      }
 
 -- settling was ended
 pub unsettled : {old new : DeviceState} (refusal : Refusal) → Settles old new (Err refusal) → Audits old new (Err refusal)
-unsettled refusal settles = record { called = settles.called; comes = settling refusal refl settles }
+unsettled refusal settles = record { called = settles.called; comes = settling refusal refl settles; was = tt }

@@ -1,6 +1,6 @@
 -- What it means that a volume is audited.
 use Rattle.std.specs.Prelude.{◌≡◌, ℕ, Result, Ok, Err, IsTrue, ⊤}
-use Rattle.cell_types.specs.Image.{Image}
+use Rattle.cell_types.specs.Image.{Extends, Image}
 use Rattle.cell_types.specs.Layout.{Layout}
 use Rattle.cell_types.specs.declared.refusal.Evidence.{Evidence}
 use Rattle.cell_types.specs.declared.refusal.Refusal.{Refusal}
@@ -43,7 +43,15 @@ pub data SettlesThenAudits (old new : DeviceState) (result : Result AuditReport 
   settling : (refusal : Refusal) → result ≡ Err refusal → Settles old new (Err refusal) → SettlesThenAudits old new result
   settled : (r : Ready) → HasSettled old new r → AuditEnds old new result → SettlesThenAudits old new result
 
+-- Whoever else writes, an audit that is done was of a sound volume: what was read lies between what stood at entry and what
+-- stands at exit.
+abbrev pub WasSound : DeviceState → DeviceState → Result AuditReport Refusal → Type 0
+WasSound old new (Ok report) = IsTrue old.tells
+    → (image : Image) × Extends old.image image × Extends image new.image × IsSound old.cells image report
+WasSound old new (Err refusal) = ⊤
+
 -- what it means that a volume is audited, or why it is not
 pub record Audits (old new : DeviceState) (result : Result AuditReport Refusal) : Type 0 where
   pub called : Called old new
   pub comes : SettlesThenAudits old new result
+  pub was : WasSound old new result
