@@ -1,5 +1,5 @@
 -- The terms of the first words of a query, as they are read one after another.
-use Rattle.std.proofs.Common.{◌≡◌, ◌+◌, ◌<◌, ◌≤◌, ◌⊎◌, ℕ, List, [], ◌∷◌, ◌++◌, String, Some, length, map, refl, sym, ap, ◌∙◌, subst, inl, inr, arith}
+use Rattle.std.proofs.Common.{◌≡◌, ◌+◌, ◌<◌, ◌≤◌, ◌⊎◌, ℕ, List, [], ◌∷◌, ◌++◌, String, Some, length, length-append, map, refl, sym, ap, ◌∙◌, subst, inl, inr, arith}
 use Rattle.std.proofs.lemmas.Bool.{cases_lt}
 use Rattle.std.proofs.lemmas.List.Elements.{Contains-append_left, Contains-push, Contains-push_cases}
 use Rattle.std.proofs.lemmas.Option.{get_or_from_slice_get, slice_get-map, slice_get_read, slice_get_within}
@@ -16,6 +16,7 @@ pub record TermsSoFar (rule : WordRule) (asked terms : List (List ℕ)) (n : ℕ
       → (term : List ℕ) × IsOneTerm rule word term × Contains terms term
   pub only : (term : List ℕ) → Contains terms term
       → (j : ℕ) × (word : List ℕ) × (j < n) × (slice_get asked j ≡ Some word) × IsOneTerm rule word term
+  pub few : length terms ≤ n
 
 -- the word that was read is the one of its place
 pub word_at : (words : List (String Global)) (n : ℕ) (word : String Global) → n < length words
@@ -28,6 +29,7 @@ pub no_terms : (rule : WordRule) (asked : List (List ℕ)) → TermsSoFar rule a
 no_terms rule asked = record {
   all = λ j word less at. absurd (omega (arith, less));
   only = λ term among. absurd (omega (arith, among.1));
+  few = omega arith;
 }
 
 some_is : (a b : List ℕ) → Some a ≡ Some b → a ≡ b
@@ -60,12 +62,13 @@ module _ {rule : WordRule} {asked terms : List (List ℕ)} {n : ℕ} (so_far : T
           get_or_from_slice_get asked from.0 from.1 from.1 from.3,
         ) in
         (from.1, at, from.4);
+    few = omega (arith, so_far.few, whole);
   }
 
   -- one word more: its term is among those that more are
   module _ (more : List (List ℕ)) (word term : List ℕ) (at : slice_get asked n ≡ Some word) (is : IsOneTerm rule word term)
       (grows : (t : List ℕ) → Contains terms t → Contains more t) (among : Contains more term)
-      (only : (t : List ℕ) → Contains more t → Contains terms t ⊎ (term ≡ t)) where
+      (only : (t : List ℕ) → Contains more t → Contains terms t ⊎ (term ≡ t)) (few : length more ≤ n + 1) where
     all_more : (j : ℕ) (other : List ℕ) → slice_get asked j ≡ Some other → (j < n) ⊎ (n ≤ j) → j < n + 1
         → (t : List ℕ) × IsOneTerm rule other t × Contains more t
     all_more j other stands (inl less) below =
@@ -85,15 +88,16 @@ module _ {rule : WordRule} {asked terms : List (List ℕ)} {n : ℕ} (so_far : T
     terms_more = record {
       all = λ j other less stands. all_more j other stands (cases_lt j n) less;
       only = λ t has. only_more t (only t has);
+      few = few;
     }
 
   module _ (word term : List ℕ) (at : slice_get asked n ≡ Some word) (is : IsOneTerm rule word term) where
     -- its term is there already
     pub term_again : Contains terms term → TermsSoFar rule asked terms (n + 1)
-    term_again among = terms_more terms word term at is (λ t has. has) among (λ t has. inl has)
+    term_again among = terms_more terms word term at is (λ t has. has) among (λ t has. inl has) (omega (arith, so_far.few))
 
     -- its term comes behind
     pub term_new : TermsSoFar rule asked (terms ++ term ∷ []) (n + 1)
     term_new = terms_more (terms ++ term ∷ []) word term at is
         (λ t has. Contains-append_left terms (term ∷ []) t has) (Contains-push terms term)
-        (λ t has. Contains-push_cases terms term t has)
+        (λ t has. Contains-push_cases terms term t has) (omega (arith, so_far.few, length-append terms (term ∷ [])))

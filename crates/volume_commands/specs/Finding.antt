@@ -1,5 +1,5 @@
 -- The command `find`: it searches the documents of the volume for words, and puts out which have them all.
-use Rattle.std.specs.Prelude.{◌≡◌, ◌<◌, ◌≤◌, ◌+◌, ◌-◌, ℕ, List, [], ◌∷◌, slice_get, Contains, Some, Result, Ok, Err, IsTrue, ⊤}
+use Rattle.std.specs.Prelude.{◌≡◌, ◌<◌, ◌≤◌, ◌+◌, ◌-◌, ℕ, List, [], ◌∷◌, length, slice_get, Contains, Some, Result, Ok, Err, IsTrue, ⊤}
 use Rattle.std.specs.Global.{Vec}
 use Rattle.cell_types.specs.Layout.{Layout}
 use Rattle.cell_types.specs.declared.refusal.Refusal.{Refusal}
@@ -34,10 +34,11 @@ pub record IsFirstBadWord (rule : WordRule) (asked : List (List ℕ)) (i : ℕ) 
   pub bad : HasOneTerm rule word → ⊥
   pub before : (j : ℕ) (other : List ℕ) → j + 1 < i → slice_get asked j ≡ Some other → HasOneTerm rule other
 
--- the terms are those of the words
+-- the terms are those of the words, and no more than these
 pub record AreTermsOf (rule : WordRule) (asked terms : List (List ℕ)) : Type 0 where
   pub all : (word : List ℕ) → Contains asked word → (term : List ℕ) × IsOneTerm rule word term × Contains terms term
   pub only : (term : List ℕ) → Contains terms term → (word : List ℕ) × Contains asked word × IsOneTerm rule word term
+  pub few : length terms ≤ length asked
 
 -- how reading the terms of the words may end, and why
 abbrev pub TermsEnd : WordRule → List (List ℕ) → Result (Vec (List ℕ)) Refusal → Type 0
@@ -64,8 +65,9 @@ FindsKept terms old (Ok matches) = IsTrue old.tells → (documents : List Docume
     → FindsAllOf old.cells old.image terms matches.items documents
 FindsKept terms old (Err refusal) = ⊤
 
--- What the command does, by how far it comes. Cell 0 is read first, since it tells by which rule words are read. Then the
--- words are read, and nothing is written before all of them are.
+-- What the command does, by how far it comes. Cell 0 is read first, in one read, since it tells by which rule words are read.
+-- Then the words are read, and nothing is written before all of them are. So the command reads one cell more than the search
+-- for no more terms than there are words, whose bound the engine states.
 pub data DoesFind (asked : List (List ℕ)) (old new : Ports) (result : Result Unit Refusal) : Type 0 where
   -- no volume stands there, or cell 0 was not read
   unruled : (refusal : Refusal) → AsksRule old.device new.device (Err refusal) → result ≡ Err refusal

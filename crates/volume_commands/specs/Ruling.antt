@@ -8,7 +8,7 @@ use Rattle.volume_meaning.specs.Volumes.{IsVolume}
 use Rattle.volume_meaning.specs.Words.{rule_of}
 use Rattle.volume_meaning.specs.declared.word_rules.WordRule.{WordRule}
 use Rattle.worm_device.specs.Calls.{Called}
-use Rattle.worm_device.specs.Counts.{IsStill}
+use Rattle.worm_device.specs.Counts.{IsStill, next_count}
 use Rattle.worm_device.specs.State.{DeviceState, IsDevice}
 use Rattle.recovery_engine.specs.Settling.{SettleEnds}
 
@@ -25,9 +25,10 @@ RuleEnds old new (Err (NotAVolume found)) = SettleEnds old new (Err (NotAVolume 
 RuleEnds old new (Err (WrongSize stated real)) = SettleEnds old new (Err (WrongSize stated real))
 RuleEnds old new (Err refusal) = ⊥
 
--- asking for it writes nothing
+-- asking for it is one read, and writes nothing
 pub record AsksRule (old new : DeviceState) (result : Result WordRule Refusal) : Type 0 where
   pub device : IsDevice new
   pub called : Called old new
+  pub reads : new.reads ≡ next_count old.reads
   pub quiet : IsStill old.foreign_writes new.foreign_writes → IsUnchanged old.image new.image
   pub ends : RuleEnds old new result

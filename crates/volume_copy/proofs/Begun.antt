@@ -371,10 +371,12 @@ module _ (slots lists version : ℕ) {source target : AuditedVolume} {from from'
       go (Err refusal) ends = absurd ends
 
 -- it is another volume
-pub is_another : {slots lists version : ℕ} {from' to' : DeviceState} {cell : List ℕ}
+pub is_another : {slots lists version : ℕ} {from' to to' : DeviceState} {cell : List ℕ}
+    → (IsStill to.foreign_writes to'.foreign_writes → IsUnchanged to.image to'.image)
     → (IsTrue to'.tells → to'.image 0 ≡ Some cell) → StatesOther slots lists version to'.cells cell
-    → IsOfVersion from' version → IsOtherVolume slots lists from' to' cell
-is_another {version = version} stands other of_source = record {
+    → IsOfVersion from' version → IsOtherVolume slots lists from' to to' cell
+is_another {version = version} only stands other of_source = record {
+  only = only;
   stands = stands;
   layout = other.layout;
   is = other.is;

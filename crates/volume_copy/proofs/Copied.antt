@@ -31,7 +31,7 @@ use Rattle.volume_copy.specs.Adding.{AddsRest, CopiedSoFar, RestFails}
 use Rattle.volume_copy.specs.Auditing.{AuditsSteady, HasAudited, IsWholeVolume, RefusesVolume, by_reading}
 use Rattle.volume_copy.specs.Beginning.{BeginEnds, BeginsCopy}
 use Rattle.volume_copy.specs.Alone.{AreAlone}
-use Rattle.volume_copy.specs.Copies.{Copies, CopiesWhole, CopyEnds, HasCopied, HasNumbers, IsFirstThroughout, IsKeptThere, KeepsAll, by_ingest}
+use Rattle.volume_copy.specs.Copies.{Copies, CopiesWhole, CopyEnds, HasCopied, HasNumbers, IsFirstThroughout, IsKeptThere, IsOfTarget, KeepsAll, by_ingest}
 use Rattle.volume_copy.specs.Completing.{IsForRoom, IsCopyUnhindered}
 use Rattle.volume_copy.specs.First.{HoldsFirst, StaysFirst}
 use Rattle.volume_copy.specs.Pairs.{ArePairs}
@@ -39,7 +39,7 @@ use Rattle.volume_copy.specs.Refusing.{refusal_from}
 use Rattle.volume_copy.specs.Staying.{IsHeldThroughout}
 use Rattle.volume_copy.specs.declared.audited.AuditedVolume.{AuditedVolume}
 use Rattle.volume_copy.specs.declared.moved.Moved.{Moved}
-use Rattle.volume_copy.proofs.AddedOn.{alone_first, alone_second, can_on, read_then, whole_on}
+use Rattle.volume_copy.proofs.AddedOn.{alone_first, alone_second, can_on, read_none, read_then, whole_on}
 use Rattle.volume_copy.proofs.Begun.{can_audited}
 use Rattle.volume_copy.proofs.First.{first_of_held, first_since, first_then}
 use Rattle.volume_copy.proofs.PairLists.{HasPair, pairs_have, pairs_long, slots_length}
@@ -56,6 +56,7 @@ not_audited slots lists from from' to refusal called device held audits refuses 
   from_held = held;
   to_sound = sound_self to;
   to_first = λ alone steady holds. first_since to device steady holds (λ since image le left. inl left);
+  untouched = λ other. read_held device device (read_none to);
   complete = λ free. subst (λ (r : Refusal). IsForRoom (refusal_from r)) (sym (audited free)) tt;
   ends = go refusal refuses;
 }
@@ -194,6 +195,7 @@ module _ {slots lists : ℕ} {source : AuditedVolume} {from audited from1 to to1
     to_sound = sound_of begins.to_held;
     to_first = λ alone steady holds. first_since to1 device_to steady holds
         (first_begun begins alone steady alone.to_alone refl refl holds);
+    untouched = λ other. begins.to_held;
     complete = λ free. begins.complete (record {
       alone = behind free.alone;
       unfailed = record {
@@ -258,6 +260,7 @@ module _ {slots lists : ℕ} {source : AuditedVolume} {from audited from1 to to1
             (read_held device device2 (read_then begins.from_read rest.from_read));
         to_sound = sound_then begins.to_called rest.to_called (sound_of begins.to_held) rest.to_sound;
         to_first = first_rested rest;
+        untouched = touched refusal rest.ends;
         complete = λ free.
             let before = called_then audit.called begins.from_read.called in
             let first = alone_first before rest.from_read.called begins.to_called rest.to_called free.alone in
@@ -275,6 +278,13 @@ module _ {slots lists : ℕ} {source : AuditedVolume} {from audited from1 to to1
         where
           volume2 : IsTrue from2.tells → IsVolume from2.cells from2.image source.volume.geometry
           volume2 = (can_on (called_then begins.from_read.called rest.from_read.called) (can_audited audit)).is_volume
+
+          touched : (r : CopyRefusal) → RestFails source.volume.geometry from1 from2 to1 to2 r → IsOfTarget (Err r)
+              → IsHeldThroughout to to2
+          touched (copies.OtherVolume cell) ends other = absurd ends
+          touched (copies.Differs old fresh) ends other = absurd ends
+          touched (copies.Longer fresh) ends other = absurd ends
+          touched r ends other = absurd other
 
           go : (r : CopyRefusal) → RestFails source.volume.geometry from1 from2 to1 to2 r
               → CopyEnds slots lists from from2 to to2 (Err r)
@@ -306,6 +316,7 @@ module _ {slots lists : ℕ} {source : AuditedVolume} {from audited from1 to to1
             (read_held device device2 (read_then begins.from_read rest.from_read));
         to_sound = sound_then begins.to_called rest.to_called (sound_of begins.to_held) rest.to_sound;
         to_first = first_rested rest;
+        untouched = λ other. absurd other;
         complete = λ free. tt;
         ends = λ alone.
             let first = alone_first (called_then audit.called begins.from_read.called) rest.from_read.called begins.to_called rest.to_called alone in

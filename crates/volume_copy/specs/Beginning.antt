@@ -56,7 +56,7 @@ BeginEnds slots lists source from from' to to' (Err (Differs old new)) =
     × WhereSourceWhole source from from' to to' (IsFirstToDiffer from' to' old new)
 BeginEnds slots lists source from from' to to' (Err (Longer new)) =
     WhereSourceWhole source from from' to to' (IsFirstPast from' to' new)
-BeginEnds slots lists source from from' to to' (Err (OtherVolume cell)) = IsOtherVolume slots lists from' to' cell
+BeginEnds slots lists source from from' to to' (Err (OtherVolume cell)) = IsOtherVolume slots lists from' to to' cell
 BeginEnds slots lists source from from' to to' (Err NoMemory) = ⊤
 BeginEnds slots lists source from from' to to' (Err (From refusals.NoMemory)) = ⊥
 BeginEnds slots lists source from from' to to' (Err (From refusal)) = ReadingFails from from' refusal

@@ -1,6 +1,6 @@
 -- What it means that a volume is copied, or why it is not. The states are those of the source, before and after, and of the
 -- target.
-use Rattle.std.specs.Prelude.{◌≡◌, ℕ, List, [], ◌∷◌, length, slice_get, Contains, Option, Some, Result, Ok, Err, IsTrue, ⊤}
+use Rattle.std.specs.Prelude.{◌≡◌, ℕ, List, [], ◌∷◌, length, slice_get, Contains, Option, Some, None, Result, Ok, Err, IsTrue, ⊤}
 use Rattle.std.specs.Global.{Vec}
 use Rattle.cell_types.specs.Image.{Image, IsUnchanged}
 use Rattle.cell_types.specs.Layout.{Layout}
@@ -15,7 +15,7 @@ use Rattle.volume_meaning.specs.Volumes.{IsVolume, volume_record}
 use Rattle.volume_meaning.specs.Keeping.{Kept}
 use Rattle.tamper_rules.specs.Settling.{Settled}
 use Rattle.worm_device.specs.Calls.{Called}
-use Rattle.worm_device.specs.Counts.{Rose}
+use Rattle.worm_device.specs.Counts.{IsStill, Rose}
 use Rattle.worm_device.specs.State.{DeviceState, LeftSince}
 use Rattle.document_store.specs.Standing.{HoldsDocument}
 use Rattle.ingest_engine.specs.Formats.{Formats}
@@ -83,12 +83,13 @@ pub record IsOfSource (from : DeviceState) (id : List ℕ) (stamp : Option ℕ) 
   pub holds : HoldsDocument layout from.image slot id body
   pub stamped : IsStampOf layout from.image slot stamp
 
--- Why the target is not written. A blank one is formatted with these numbers and the source's version, and another is
--- audited and read; then documents of the source are ingested.
+-- Why the target is not written. One whose cell 0 is blank is formatted with these numbers and the source's version, and
+-- another is audited and read; then documents of the source are ingested.
 pub data RefusesTo (slots lists : ℕ) (from' old new : DeviceState) (refusal : Refusal) : Type 0 where
   by_look : refusal ≡ refusals.DeviceFault → Rose old.faults new.faults
       → RefusesTo slots lists from' old new refusal
-  by_format : (between : DeviceState) (version : ℕ) → Called old between → IsOfVersion from' version
+  by_format : (between : DeviceState) (version : ℕ) → Called old between
+      → (IsTrue between.tells → between.image 0 ≡ None) → IsOfVersion from' version
       → Formats (record { slots = slots; lists = lists; cells = between.cells; version = version }) between new (Err refusal)
       → RefusesTo slots lists from' old new refusal
   by_volume : (between : DeviceState) → Called old between → RefusesVolume between new refusal
@@ -98,8 +99,9 @@ pub data RefusesTo (slots lists : ℕ) (from' old new : DeviceState) (refusal : 
       → RefusesTo slots lists from' old new refusal
 
 -- The target's cell 0 holds a volume cell that states the device's size, and other slots or lists, or another version than
--- the source has.
-pub record IsOtherVolume (slots lists : ℕ) (from' to' : DeviceState) (cell : List ℕ) : Type 0 where
+-- the source has. Nothing was written there.
+pub record IsOtherVolume (slots lists : ℕ) (from' to to' : DeviceState) (cell : List ℕ) : Type 0 where
+  pub only : IsStill to.foreign_writes to'.foreign_writes → IsUnchanged to.image to'.image
   pub stands : IsTrue to'.tells → to'.image 0 ≡ Some cell
   pub layout : Layout
   pub is : IsRecordCell (volume_record layout) 0 cell
@@ -152,13 +154,21 @@ CopyEnds slots lists from from' to to' (Err (From refusals.NoMemory)) = ⊥
 CopyEnds slots lists from from' to to' (Err (From refusal)) = RefusesVolume from from' refusal
 CopyEnds slots lists from from' to to' (Err (To refusals.NoMemory)) = ⊥
 CopyEnds slots lists from from' to to' (Err (To refusal)) = RefusesTo slots lists from' to to' refusal
-CopyEnds slots lists from from' to to' (Err (OtherVolume cell)) = IsOtherVolume slots lists from' to' cell
+CopyEnds slots lists from from' to to' (Err (OtherVolume cell)) = IsOtherVolume slots lists from' to to' cell
 CopyEnds slots lists from from' to to' (Err (Differs old new)) =
     (IsTrue from.tells → IsTrue to.tells → HoldOthers from' to' old new)
     × (AreAlone from from' to to' → IsFirstToDiffer from' to' old new)
 CopyEnds slots lists from from' to to' (Err (Longer new)) = AreAlone from from' to to' → IsFirstPast from' to' new
 CopyEnds slots lists from from' to to' (Err NoMemory) = ⊤
 CopyEnds slots lists from from' to to' (Err refusal) = ⊥
+
+-- The refusal says that the target is another volume, or has other documents than the source.
+abbrev pub IsOfTarget : Result (Vec Moved) CopyRefusal → Type 0
+IsOfTarget (Ok moved) = ⊥
+IsOfTarget (Err (OtherVolume cell)) = ⊤
+IsOfTarget (Err (Differs old new)) = ⊤
+IsOfTarget (Err (Longer new)) = ⊤
+IsOfTarget (Err refusal) = ⊥
 
 -- Whatever a crash could leave of the target, at any moment of the copy, holds the first documents of the source, where
 -- nobody else writes, and the target was steady and held such ones at entry.
@@ -169,8 +179,9 @@ IsFirstThroughout from from' to to' =
 
 -- What it means that a volume is copied, or why it is not. Where nobody else writes, what a crash leaves of the source or of
 -- the target, from a steady device on, is blank or sound at each moment; the source holds the documents that it held; and
--- the target holds the first ones of the source, so that a copy that was stopped is run again. One that nothing hinders is done, or refused
--- for want of memory or of room.
+-- the target holds the first ones of the source, so that a copy that was stopped is run again. A target that is another
+-- volume or has other documents keeps just those that it held. A copy that nothing hinders is done, or refused for want of
+-- memory or of room.
 pub record Copies (slots lists : ℕ) (from from' to to' : DeviceState) (result : Result (Vec Moved) CopyRefusal) : Type 0
   where
     pub from_called : Called from from'
@@ -178,5 +189,6 @@ pub record Copies (slots lists : ℕ) (from from' to to' : DeviceState) (result 
     pub from_held : IsHeldThroughout from from'
     pub to_sound : IsSoundThroughout to to'
     pub to_first : IsFirstThroughout from from' to to'
+    pub untouched : IsOfTarget result → IsHeldThroughout to to'
     pub complete : IsCopyUnhindered from from' to to' → EndsUnhindered result
     pub ends : CopyEnds slots lists from from' to to' result

@@ -44,6 +44,7 @@ returns-in-Err g c = record {
       (sym (c.in-Ok.ensures.answer free.alone.to_tells) ∙ c.in_default-found.is) c.in-Err.refusal c.in-Err.ensures free);
   ends = rw c.to_target.ensures (begin_refuses c.args.slots c.args.lists c.args.source.now _ _ _ _ c.in-Err.refusal
       (by_format _ c.version-version.result c.read.ensures.called
+      (λ tells. sym (c.in-Ok.ensures.answer (subst IsTrue c.read.ensures.called.tells tells)) ∙ c.in_default-found.is)
       (of_version c.version-version.result c.requires.source c.version-version.ensures.version) c.in-Err.ensures));
 }
 
@@ -55,7 +56,7 @@ returns-then-states_other g c = record {
   to_held = read_held (g.met.E.Device.proper c.args.to.now) (g.met.E.Device.proper c.read.new.self)
       (read_once c.read.ensures);
   complete = rw c.other_volume.ensures (λ free. tt);
-  ends = rw c.other_volume.ensures (is_another
+  ends = rw c.other_volume.ensures (is_another c.read.ensures.only
       (λ tells. sym (c.in-Ok.ensures.answer (subst IsTrue c.read.ensures.called.tells tells)) ∙ c.in-Some.is)
       (subst (λ (n : ℕ). StatesOther c.args.slots c.args.lists c.version-version.result n c.in-Some.cell)
       c.cells.ensures.cells c.if-states_other.ensures)
