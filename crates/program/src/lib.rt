@@ -17,13 +17,13 @@
 //! Stands on `record_top`, which carries commands out, and on `host_files`. Begin with `carrying.rt`.
 #![tactic(auto)]
 
+mod arguments;
 mod carrying;
 mod fault;
 mod opening;
 mod terminal;
 mod waiting;
-mod words;
 
+pub use arguments::words;
 pub use carrying::carry_out;
 pub use fault::Fault;
-pub use words::words;

@@ -1,8 +1,7 @@
-//! The receipt of the small volume, and texts that are none, each for one fault.
+//! The receipt of the small volume is read, and receipts are printed.
 use cell_types::{Cell, Refusal};
 use document_store::Text;
-use receipt_text::{ListedCells, Receipt, ReceiptFault, read_receipt, text_of_receipt};
-use std::alloc::Global;
+use receipt_text::{ListedCells, Receipt, read_receipt, text_of_receipt};
 use std::test::Fail;
 
 /// The receipt of the document `a` of the small volume: the cells that FORMAT.md decodes, but for the journal.
@@ -20,14 +19,6 @@ end 8
 
 /// The addresses of its cells.
 const ADDRESSES: [u32; 8] = [0, 4, 5, 6, 36, 37, 560, 580];
-
-/// The line at which a text breaks the form, for a device of 1,000 cells.
-fn bad_line(alloc: Global, text: &str) -> Option<u32> {
-    match read_receipt(alloc, text.as_bytes(), 1_000) {
-        Err(ReceiptFault::BadReceipt(line)) => Some(line),
-        _ => None,
-    }
-}
 
 #[test]
 fn the_receipt_of_the_small_volume_is_read(rt: HostRuntime) -> Result<(), Fail> {
@@ -83,57 +74,5 @@ fn cells_are_printed_by_rising_address(rt: HostRuntime) -> Result<(), Fail> {
 end 3
 ";
     assert!(rt; text.as_slice() == expected.as_bytes());
-    Ok(())
-}
-
-#[test]
-fn each_fault_is_told_by_its_line(rt: HostRuntime) -> Result<(), Fail> {
-    let cases = [
-        // The line of the document.
-        ("", 1),
-        ("receipt 0 a", 1),
-        ("receipt 0 a\r\nend 0\n", 1),
-        ("Receipt 0 a\nend 0\n", 1),
-        ("receipt 00 a\nend 0\n", 1),
-        ("receipt +0 a\nend 0\n", 1),
-        ("receipt 16777216 a\nend 0\n", 1),
-        ("receipt 0 \nend 0\n", 1),
-        ("receipt 0 a b\nend 0\n", 1),
-        // The line of a cell: its address, its digits, and that addresses rise.
-        ("receipt 0 a\n036 H\nend 1\n", 2),
-        ("receipt 0 a\n36  H\nend 1\n", 2),
-        ("receipt 0 a\n4294967332 H\nend 1\n", 2),
-        ("receipt 0 a\n1000 H\nend 1\n", 2),
-        (
-            "receipt 0 a\n36 0600000000012CF24dba5fb000000024\nend 1\n",
-            2,
-        ),
-        ("receipt 0 a\n36 06000000000\nend 1\n", 2),
-        ("receipt 0 a\n36 H00\nend 1\n", 2),
-        (
-            "receipt 0 a\n36 00000000000000000000000000000000\nend 1\n",
-            2,
-        ),
-        ("receipt 0 a\n36 H\n36 H\nend 2\n", 3),
-        ("receipt 0 a\n36 H\n35 H\nend 2\n", 3),
-        // The line of the end, and what is behind it.
-        ("receipt 0 a\n", 2),
-        ("receipt 0 a\nend 0", 2),
-        ("receipt 0 a\nend 00\n", 2),
-        ("receipt 0 a\n36 H\nend 2\n", 3),
-        ("receipt 0 a\n36 H\nend 1\n\n", 4),
-        ("receipt 0 a\nend 0\nend 0\n", 3),
-    ];
-    for (text, line) in cases {
-        let text = text.replace(rt.alloc(), "H", "0600000000012cf24dba5fb000000024")?;
-        assert_eq!(rt;
-            bad_line(rt.alloc(), text.as_str()),
-            Some(line),
-            "{}",
-            text.as_str()
-        );
-    }
-    let nine = SMALL.replace(rt.alloc(), "end 8", "end 9")?;
-    assert_eq!(rt; bad_line(rt.alloc(), nine.as_str()), Some(10));
     Ok(())
 }

@@ -1,9 +1,22 @@
 //! Texts that are almost the receipt of the small volume: none is accepted.
-use crate::small::{OF_A, small_volume};
-use crate::volumes::{Answer, answer_to};
+use crate::volumes::{Answer, answer_to, small_volume};
 use std::alloc::{AllocError, Global};
 use std::test::Fail;
 use worm_memory::MemoryDevice;
+
+/// The receipt of `a`: the volume cell, the slot's reserve, commit and done cell, its two postings, its bucket and its
+/// stored bytes.
+const OF_A: &str = "receipt 0 a
+0 0101000000080002000003e800000000
+4 02000002440000000400000000000004
+5 030000000d0000000300000000000005
+6 05000000000000000000000000000006
+36 0600000000012cf24dba5fb000000024
+37 060000000101486ea46224d100000025
+560 0800000000ca978112ca1bbd00000230
+580 1d016168656c6c6f20776f726c640000
+end 8
+";
 
 /// How many lines the receipt has.
 const LINES: usize = 10;

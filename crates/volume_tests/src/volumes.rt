@@ -1,9 +1,9 @@
-//! Volumes in memory, and what a stranger says of the text of a receipt.
-use cell_types::{FIRST_VERSION, STAMPED_VERSION};
+//! The small volume in memory, and what a stranger says of the text of a receipt.
+use cell_types::FIRST_VERSION;
 use document_store::is_identifier;
 use ingest_engine::{format_volume, ingest};
-use receipt_check::{CheckRefusal, check_receipt, make_receipt};
-use receipt_text::{ReceiptFault, read_receipt, text_of_receipt};
+use receipt_check::{CheckRefusal, check_receipt};
+use receipt_text::{ReceiptFault, read_receipt};
 use std::alloc::Global;
 use std::test::Fail;
 use volume_meaning::MAX_BODY_BYTES;
@@ -21,66 +21,25 @@ pub(crate) enum Answer {
     Unanswered,
 }
 
-/// A volume of 8 slots on a device of so many cells.
-pub(crate) fn blank_volume(alloc: Global, cells: u32, lists: u16) -> Result<MemoryDevice, Fail> {
-    if cells == 0 || cells > 100_000 {
-        return Err("no such device".into());
-    }
-    let mut device = MemoryDevice::new(alloc, cells)?;
-    device.reserve(10_000)?;
-    format_volume(&mut device, 8, lists, FIRST_VERSION)?;
-    Ok(device)
-}
-
-/// The stamped volume: 8 slots and 2 lists on 1,200 cells, with the document `a`, no body, and the stamp 1000.
-pub(crate) fn stamped_volume(alloc: Global) -> Result<MemoryDevice, Fail> {
-    let mut device = MemoryDevice::new(alloc, 1_200)?;
+/// The small volume: 8 slots and 2 lists on 1,000 cells, with the document `a`, `hello world`.
+pub(crate) fn small_volume(alloc: Global) -> Result<MemoryDevice, Fail> {
+    let mut device = MemoryDevice::new(alloc, 1_000)?;
     device.reserve(1_000)?;
-    format_volume(&mut device, 8, 2, STAMPED_VERSION)?;
-    store_with(alloc, &mut device, b"a", Some(1_000), b"")?;
+    format_volume(&mut device, 8, 2, FIRST_VERSION)?;
+    store(alloc, &mut device, b"a", b"hello world")?;
     Ok(device)
 }
 
 /// Stores a document.
-pub(crate) fn store(
-    alloc: Global,
-    device: &mut MemoryDevice,
-    id: &[u8],
-    body: &[u8],
-) -> Result<u32, Fail> {
-    store_with(alloc, device, id, None, body)
-}
-
-/// Stores a document with a stamp, or with none.
-fn store_with(
-    alloc: Global,
-    device: &mut MemoryDevice,
-    id: &[u8],
-    stamp: Option<u32>,
-    body: &[u8],
-) -> Result<u32, Fail> {
+fn store(alloc: Global, device: &mut MemoryDevice, id: &[u8], body: &[u8]) -> Result<u32, Fail> {
     if body.len() > MAX_BODY_BYTES {
         return Err("the body is too long".into());
     }
     if !is_identifier(id) {
         return Err("no identifier".into());
     }
-    let slot = ingest(alloc, device, id, stamp, body)?;
+    let slot = ingest(alloc, device, id, None, body)?;
     Ok(slot)
-}
-
-/// The text of the receipt of a document.
-pub(crate) fn receipt(
-    alloc: Global,
-    device: &mut MemoryDevice,
-    id: &[u8],
-) -> Result<Vec<u8>, Fail> {
-    if !is_identifier(id) {
-        return Err("no identifier".into());
-    }
-    let made = make_receipt(alloc, device, id)?;
-    let text = text_of_receipt(alloc, &made)?;
-    Ok(text)
 }
 
 /// What a stranger who has the device says of the text.
