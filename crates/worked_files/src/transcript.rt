@@ -1,4 +1,4 @@
-//! The lines of a session: what each does, and what it answers.
+//! The lines of a transcript: what each does, and what it answers.
 use cell_types::NoMemory;
 use host_files::Hold;
 use host_ports::{MemorySink, MemorySource};
