@@ -1,12 +1,12 @@
 -- How a row of cells goes on, cell by cell, and how a position goes on behind it.
-use Rattle.std.proofs.Common.{◌≡◌, ◌<◌, ◌≤◌, ◌+◌, ◌-◌, ◌*◌, ◌⊎◌, min, ℕ, List, [], ◌++◌, length, take, drop, slice_get, slice_index, Option, Some, None, Ok, Err, refl, sym, ap, ◌∙◌, ⊎_elim, subst, arith}
+use Rattle.std.proofs.Common.{◌≡◌, ◌<◌, ◌≤◌, ◌+◌, ◌-◌, ◌*◌, ◌/◌, ◌⊎◌, min, ℕ, List, [], ◌++◌, length, take, drop, replicate, slice_index, Option, Some, None, Ok, Err, refl, sym, ap, ◌∙◌, ⊎_elim, subst, arith}
 use Rattle.std.proofs.Math.ListN.{get_or-eq_default}
 use Rattle.std.proofs.Math.Seq.{drop-append_seam, take-append-add}
 use Rattle.std.proofs.lemmas.Bool.{cases_lt}
-use Rattle.std.proofs.lemmas.List.{append-nil, drop-drop, drop_all, get_or-drop, length-append, length-drop, length-take, length-take-le, take-take, take_all}
-use Rattle.std.proofs.lemmas.Option.{slice_get_within}
-use Rattle.std.proofs.lemmas.Slice.{take-put_mid}
-use Rattle.std.specs.Prelude.{IsTrue}
+use Rattle.std.proofs.lemmas.List.{append-nil, drop-drop, drop_all, get_or-drop, length-append, length-drop, length-take, length-take-le, take-append-le, take-take, take_all}
+use Rattle.std.proofs.lemmas.Option.{same_Some}
+use Rattle.std.proofs.lemmas.Slice.{drop-put_mid, take-put_mid}
+use Rattle.std.specs.Prelude.{IfSome, IsTrue}
 use Rattle.cell_types.specs.Bytes.{AreBytes, IsCell}
 use Rattle.cell_types.specs.Contents.{content_bytes}
 use Rattle.cell_types.specs.Image.{Image, Extends}
@@ -14,11 +14,11 @@ use Rattle.cell_types.proofs.ContentCells.{full_cell}
 use Rattle.cell_types.specs.declared.held_bytes.Content.{Content}
 use Rattle.volume_meaning.specs.Documents.{content_at}
 use Rattle.volume_meaning.specs.Slots.{cells_for}
-use Rattle.worm_device.specs.ReadRows.{IsFoundBetween, ViewReadsRow}
+use Rattle.worm_device.specs.ReadBytes.{IsReadBetween, ViewReadsBytes, cell_bytes}
 use Rattle.worm_device.specs.Views.{ViewState, Viewed}
 use Rattle.append_file.specs.Pieces.{HoldsPiece, IsNoPiece, held_bytes}
 use Rattle.append_file.specs.Reading.{NextRowEnds, HasBroken, HasRead, IsFront, IsPosition, left_over, rest_given, row_given}
-use Rattle.append_file.specs.Rows.{HasNoPiece, HoldsRow, PutsPiece, RowReadEnds}
+use Rattle.append_file.specs.Rows.{GivesPiece, HasNoPiece, HoldsRow, PutsPiece, RowReadEnds}
 use Rattle.append_file.specs.declared.piece.ContentFault.{ContentFault}
 use Rattle.append_file.specs.declared.piece.ContentFault.TheVariants.{Broken, ReadFault}
 use Rattle.append_file.specs.declared.position.Position.{Position}
@@ -31,12 +31,40 @@ below_or_at k n h = grind arith
 none_some : (a : List ℕ) → Some a ≡ None → ⊥
 none_some a e = cc
 
+-- a content cell is not blank
+content_written : (piece : List ℕ) → content_bytes piece ≡ replicate 16 0 → ⊥
+content_written piece zeros =
+    let first : 16 + length piece ≡ 0 = ap (λ (l : List ℕ). slice_index l 0) zeros in omega (arith, first)
+
+-- so one that was read stands there
+stands_read : (a b : Image) (cell : ℕ) (found piece : List ℕ) → IsReadBetween a b cell found
+    → found ≡ content_bytes piece → b cell ≡ Some (content_bytes piece)
+stands_read a b cell found piece reads is = ⊎_elim
+    (λ (stands : b cell ≡ Some found). stands ∙ ap (λ (c : List ℕ). Some c) is)
+    (λ blank. absurd (content_written piece (sym is ∙ blank.1)))
+    reads
+
 -- what was found broken was so before, whatever was written since
-broken_before : (a b : Image) (bytes k cell : ℕ) (found : Option (List ℕ)) → Extends a b → IsFoundBetween a b cell found
-    → IsNoPiece bytes k found → IsNoPiece bytes k (a cell)
-broken_before a b bytes k cell None grows blank none piece is stood = none_some (content_bytes piece) (sym stood ∙ blank)
-broken_before a b bytes k cell (Some value) grows stands none piece is stood =
-    none piece is (sym stands ∙ grows.keeps cell (content_bytes piece) stood)
+broken_before : (a b : Image) (bytes k cell : ℕ) (found : List ℕ) → Extends a b → IsReadBetween a b cell found
+    → IsNoPiece bytes k (Some found) → IsNoPiece bytes k (a cell)
+broken_before a b bytes k cell found grows reads none piece is stood = ⊎_elim
+    (λ (stands : b cell ≡ Some found).
+    none piece is (sym stands ∙ grows.keeps cell (content_bytes piece) stood))
+    (λ blank. none_some (content_bytes piece) (sym stood ∙ blank.0))
+    reads
+
+-- sixteen zeros are no content cell
+pub zeros_none : (bytes place : ℕ) (cell : List ℕ) → cell ≡ replicate 16 0 → IsNoPiece bytes place (Some cell)
+zeros_none bytes place cell zeros piece is same = content_written piece (sym (same_Some cell (content_bytes piece) same) ∙ zeros)
+
+-- sixteen bytes with a first one that is not zero are a written cell
+written_cell : (cell : List ℕ) → length cell ≡ 16 → AreBytes cell → slice_index cell 0 ≡ 31 → IsCell cell
+written_cell cell sixteen fits kind = record {
+  sixteen = sixteen;
+  fits = fits;
+  written = λ zeros. let first : slice_index cell 0 ≡ 0 = ap (λ (l : List ℕ). slice_index l 0) zeros in
+      omega (arith, first, kind);
+}
 
 -- the bytes of whole cells, and behind them those of one more in the buffer
 pub buffer_more : (n more k : ℕ) (into piece : List ℕ) → n ≤ length into → length piece ≡ 15 → more ≤ 15
@@ -58,16 +86,18 @@ content_behind xs ys k i full =
     ap (λ (l : List ℕ). content_bytes (take 15 l)) split
 
 -- the first so many cells of a row hold what stands in the buffer
-pub record RowSoFar (bytes place k n : ℕ) (into : List ℕ) (row : List (Option (List ℕ))) : Type 0 where
+pub record RowSoFar (bytes place k n : ℕ) (into row : List ℕ) : Type 0 where
   pub most : n ≤ 15 * k
   pub count : length (take n into) ≡ n
   pub length_is : n ≡ min (15 * k) (bytes - 15 * place)
   pub fits : AreBytes (take n into)
-  pub each : (j : ℕ) → j < k → slice_get row j ≡ Some (Some (content_at (take n into) j))
+  pub each : (j : ℕ) → j < k → cell_bytes row j ≡ content_at (take n into) j
+  pub size : length into ≡ length row
+  pub behind : (j : ℕ) → k ≤ j → cell_bytes into j ≡ cell_bytes row j
 
 -- none of them hold anything
-pub row_none : (bytes place : ℕ) (into : List ℕ) (row : List (Option (List ℕ))) → RowSoFar bytes place 0 0 into row
-row_none bytes place into row = record {
+pub row_none : (bytes place : ℕ) (row : List ℕ) → RowSoFar bytes place 0 0 row row
+row_none bytes place row = record {
   most = omega arith;
   count = refl;
   length_is = omega arith;
@@ -76,51 +106,82 @@ row_none bytes place into row = record {
         omega (arith, zero);
   };
   each = λ j less. absurd (omega (arith, less));
+  size = refl;
+  behind = λ j from. refl;
 }
 
--- a cell whose bytes are put behind those of whole cells
-pub puts_held : (bytes place at part : ℕ) (found : Option (List ℕ)) (cell into after : List ℕ) (held : Content)
-    → found ≡ Some cell → HoldsPiece bytes place (Some cell) held → at ≤ length into → length held.bytes ≡ 15 → after ≡ held.bytes
-    → PutsPiece bytes place found at into (put_mid at part into after) held.length
-puts_held bytes place at part found cell into after held is holds within fifteen copied =
+-- bytes that are put before a cell leave it as it is
+pub put_before : (at part other : ℕ) (xs ys : List ℕ) → part ≡ 15 → length ys ≡ 15 → at + 15 ≤ 16 * other
+    → at ≤ length xs → cell_bytes (put_mid at part xs ys) other ≡ cell_bytes xs other
+put_before at part other xs ys fifteen long before within =
+    ap (take 16) (drop-put_mid at part xs ys (16 * other) (omega (arith, fifteen, long)) within
+    (omega (arith, fifteen, long, before)))
+
+-- a cell gives the bytes that were found in it
+pub gives_held : (bytes place : ℕ) (cell room : List ℕ) (held : Content) → HoldsPiece bytes place (Some cell) held
+    → length held.bytes ≡ 15 → room ≡ held.bytes → GivesPiece bytes place cell room held.length
+gives_held bytes place cell room held holds fifteen copied =
     let few : held.length ≤ 15 = omega (arith, holds.count) in
     record {
       piece = held_bytes held;
       is = holds.piece;
-      held = is ∙ holds.is;
+      held = same_Some cell (content_bytes (held_bytes held)) holds.is;
       count = sym (length-take-le held.length held.bytes (omega (arith, fifteen, few)));
-      put = subst (λ (l : List ℕ). take (at + held.length) (put_mid at part into l) ≡ take at into ++ held_bytes held)
-          (sym copied) (buffer_more at held.length part into held.bytes within fifteen few);
+      given = ap (take held.length) copied;
     }
 
--- a full cell holds what stands behind its first byte
-pub puts_full : (bytes place at part : ℕ) (found : Option (List ℕ)) (cell into after : List ℕ) → found ≡ Some cell
-    → IsCell cell → slice_index cell 0 ≡ 31
-    → 15 ≤ bytes - 15 * place → at ≤ length into → after ≡ take 15 (drop 1 cell)
-    → PutsPiece bytes place found at into (put_mid at part into after) 15
-puts_full bytes place at part found cell into after same is kind long within copied =
-    let fifteen : length (drop 1 cell) ≡ 15 = omega (arith, length-drop 1 cell, is.sixteen) in
+-- a full cell gives what stands behind its first byte
+pub gives_full : (bytes place : ℕ) (cell room : List ℕ) → length cell ≡ 16 → AreBytes cell → slice_index cell 0 ≡ 31
+    → 15 ≤ bytes - 15 * place → room ≡ take 15 (drop 1 cell) → GivesPiece bytes place cell room 15
+gives_full bytes place cell room sixteen fits kind long copied =
+    let is : IsCell cell = written_cell cell sixteen fits kind in
+    let fifteen : length (drop 1 cell) ≡ 15 = omega (arith, length-drop 1 cell, sixteen) in
     let all : take 15 (drop 1 cell) ≡ drop 1 cell = take_all 15 (drop 1 cell) (omega (arith, fifteen)) in
     record {
       piece = drop 1 cell;
       is = record {
         length_is = omega (arith, fifteen, long);
-        fits = record { each = λ i. rw (get_or-drop 1 cell i 0) (is.fits.each (1 + i)) };
+        fits = record { each = λ i. rw (get_or-drop 1 cell i 0) (fits.each (1 + i)) };
       };
-      held = same ∙ ap (λ (c : List ℕ). Some c) (full_cell cell (drop 1 cell) is (sym all) kind
-          ∙ ap (λ (l : List ℕ). content_bytes l) all);
+      held = full_cell cell (drop 1 cell) is (sym all) kind ∙ ap (λ (l : List ℕ). content_bytes l) all;
       count = sym fifteen;
-      put = subst (λ (l : List ℕ). take (at + 15) (put_mid at part into l) ≡ take at into ++ drop 1 cell)
-          (sym (copied ∙ all)) (buffer_more at 15 part into (drop 1 cell) within fifteen (omega arith)
-          ∙ ap (λ (l : List ℕ). take at into ++ l) all);
+      given = ap (take 15) (copied ∙ all) ∙ all;
     }
 
+-- what a cell gives is put behind the bytes of whole cells
+puts_given : (bytes place at part n : ℕ) (cell was into room : List ℕ) → cell ≡ was
+    → GivesPiece bytes place cell room n → at ≤ length into → length room ≡ 15
+    → PutsPiece bytes place was at into (put_mid at part into room) n
+puts_given bytes place at part n cell was into room same gives within fifteen =
+    let few : n ≤ 15 = omega (arith, gives.count, gives.is.length_is) in
+    record {
+      piece = gives.piece;
+      is = gives.is;
+      held = sym same ∙ gives.held;
+      count = gives.count;
+      put = buffer_more at n part into room within fifteen few ∙ ap (λ (l : List ℕ). take at into ++ l) gives.given;
+    }
+
+-- where it gives them
+pub puts_some : (bytes place at part : ℕ) (cell was into room : List ℕ) (result : Option ℕ) → cell ≡ was
+    → IfSome result (GivesPiece bytes place cell room) → at ≤ length into → length room ≡ 15
+    → IfSome result (PutsPiece bytes place was at into (put_mid at part into room))
+puts_some bytes place at part cell was into room None same gives within fifteen = tt
+puts_some bytes place at part cell was into room (Some n) same gives within fifteen =
+    puts_given bytes place at part n cell was into room same gives within fifteen
+
+-- what holds whatever it gives
+pub some_any : (P : Type 0) (result : Option ℕ) → P → IfSome result (λ (n : ℕ). P)
+some_any P None holds = tt
+some_any P (Some n) holds = holds
+
 -- one cell more
-pub row_more : (bytes place k n : ℕ) (into after : List ℕ) (row : List (Option (List ℕ)))
-    → RowSoFar bytes place k n into row → 15 * (place + k) < bytes → (found : Option (List ℕ))
-    → slice_get row k ≡ Some found → (more : ℕ) → PutsPiece bytes (place + k) found n into after more
+pub row_more : (bytes place k n more : ℕ) (into after row : List ℕ) → RowSoFar bytes place k n into row
+    → 15 * (place + k) < bytes → PutsPiece bytes (place + k) (cell_bytes into k) n into after more
+    → length after ≡ length into → ((other : ℕ) → k < other → cell_bytes after other ≡ cell_bytes into other)
     → RowSoFar bytes place (k + 1) (n + more) after row
-row_more bytes place k n into after row so_far below found there more puts =
+row_more bytes place k n more into after row so_far below puts size others =
+    let here : cell_bytes row k ≡ content_bytes puts.piece = sym (so_far.behind k (omega arith)) ∙ puts.held in
     let piece = puts.piece in
     let few : length piece ≤ 15 = omega (arith, puts.is.length_is) in
     let full : length (take n into) ≡ 15 * k = omega (arith, so_far.count, so_far.length_is, below) in
@@ -129,59 +190,79 @@ row_more bytes place k n into after row so_far below found there more puts =
       count = ap length puts.put ∙ omega (arith, length-append (take n into) piece, so_far.count, puts.count);
       length_is = omega (arith, so_far.count, full, puts.count, puts.is.length_is, below);
       fits = subst AreBytes (sym puts.put) (append_fits (take n into) piece so_far.fits puts.is.fits);
-      each = λ j less. subst (λ (l : List ℕ). slice_get row j ≡ Some (Some (content_at l j))) (sym puts.put)
+      each = λ j less. subst (λ (l : List ℕ). cell_bytes row j ≡ content_at l j) (sym puts.put)
           (⊎_elim
           (λ (earlier : j < k). so_far.each j earlier
-          ∙ ap (λ (c : List ℕ). Some (Some c)) (content_stays (take n into) piece j (omega (arith, full, earlier))))
-          (λ (now : j ≡ k). ap (slice_get row) now ∙ there
-          ∙ ap (λ (f : Option (List ℕ)). Some f) (puts.held
-          ∙ ap (λ (c : List ℕ). Some c) (sym (content_last (take n into) piece k full few)
-          ∙ ap (content_at (take n into ++ piece)) (sym now))))
+          ∙ content_stays (take n into) piece j (omega (arith, full, earlier)))
+          (λ (now : j ≡ k). ap (cell_bytes row) now ∙ here
+          ∙ sym (content_last (take n into) piece k full few)
+          ∙ ap (content_at (take n into ++ piece)) (sym now))
           (below_or_at j k less));
+      size = size ∙ so_far.size;
+      behind = λ j from. others j (omega (arith, from)) ∙ so_far.behind j (omega (arith, from));
     }
 
+-- a cell that is not whole was none before
+pub row_none_at : (bytes place k n count : ℕ) (into row : List ℕ) → RowSoFar bytes place k n into row → k < count
+    → IsNoPiece bytes (place + k) (Some (cell_bytes into k)) → HasNoPiece bytes place count row
+row_none_at bytes place k n count into row so_far less none = (
+  k,
+  less,
+  subst (λ (c : List ℕ). IsNoPiece bytes (place + k) (Some c)) (so_far.behind k (omega arith)) none,
+)
+
 -- all of them
-pub row_whole : (bytes place k n : ℕ) (into : List ℕ) (row : List (Option (List ℕ)))
-    → RowSoFar bytes place k n into row → k ≡ length row → HoldsRow bytes place row (take n into)
-row_whole bytes place k n into row so_far all = record {
+pub row_whole : (bytes place k n count : ℕ) (into row : List ℕ) → RowSoFar bytes place k n into row → k ≡ count
+    → HoldsRow bytes place count row (take n into)
+row_whole bytes place k n count into row so_far all = record {
   length_is = omega (arith, so_far.count, so_far.length_is, all);
   fits = so_far.fits;
   each = λ j less. so_far.each j (omega (arith, less, all));
 }
 
 -- A row that was read through a view.
-module _ (start bytes place count : ℕ) (old new : ViewState) {room row : List (Option (List ℕ))} (into : List ℕ)
-    (reads : ViewReadsRow (start + place) room row old new (Ok tt)) (size : length room ≡ count)
+module _ (start bytes place count : ℕ) (old new : ViewState) {room row : List ℕ}
+    (reads : ViewReadsBytes (start + place) room row old new (Ok tt)) (size : length room ≡ 16 * count)
     (inside : place + count ≤ cells_for bytes) where
-  found_at : IsTrue old.base.tells → (k : ℕ) (found : Option (List ℕ)) → slice_get row k ≡ Some found
-      → IsFoundBetween old.image new.image (start + place + k) found
-  found_at tells k found there = reads.answer tells k found (slice_get_within row k found there) there
+  all_of : length row / 16 ≡ count
+  all_of = omega (arith, reads.size, size)
 
-  -- its cells hold what they were found to hold
-  pub row_held : (n : ℕ) → length (take n into) ≡ n → HoldsRow bytes place row (take n into)
-      → RowReadEnds start bytes place count old new into (Ok n)
-  row_held n long holds = (
-    reads.cause,
-    long,
-    omega (arith, long, holds.length_is, reads.size, size),
-    λ tells. record {
-      fits = holds.fits;
-      spells = λ k less. found_at tells k (Some (content_at (take n into) k))
-          (holds.each k (omega (arith, less, reads.size, size)));
-    },
-  )
+  read_at : IsTrue old.base.tells → (k : ℕ) → k < count
+      → IsReadBetween old.image new.image (start + place + k) (cell_bytes row k)
+  read_at tells k less = reads.answer tells k (omega (arith, all_of, less))
+
+  -- its cells hold what was read of them
+  pub row_held : (n : ℕ) (moved rest : List ℕ) → length (take n moved) ≡ n → n ≤ length moved
+      → HoldsRow bytes place (length row / 16) row (take n moved)
+      → RowReadEnds start bytes place count old new (moved ++ rest) (Ok n)
+  row_held n moved rest long within holds =
+      subst (λ (l : List ℕ). (new.base.faults ≡ old.base.faults) × (length l ≡ n)
+      × (n ≡ min (15 * count) (bytes - 15 * place))
+      × (IsTrue old.base.tells → IsFront new.image (start + place) count l))
+      (sym (take-append-le n moved rest within)) (
+        reads.cause,
+        long,
+        omega (arith, long, holds.length_is, all_of),
+        λ tells. record {
+          fits = holds.fits;
+          spells = λ k less. stands_read old.image new.image (start + place + k) (cell_bytes row k)
+              (take 15 (drop (15 * k) (take n moved))) (read_at tells k less)
+              (holds.each k (omega (arith, less, all_of)));
+        },
+      )
 
   -- or one of them was broken before
-  pub row_broken : HasNoPiece bytes place row → RowReadEnds start bytes place count old new into (Err Broken)
-  row_broken (k, found, there, none) = (
+  pub row_broken : (into : List ℕ) → HasNoPiece bytes place (length row / 16) row
+      → RowReadEnds start bytes place count old new into (Err Broken)
+  row_broken into (k, less, none) = (
     reads.cause,
     λ tells. (
       place + k,
-      omega (arith, slice_get_within row k found there, reads.size, size, inside),
+      omega (arith, less, all_of, inside),
       subst (λ (cell : ℕ). IsNoPiece bytes (place + k) (old.image cell))
           (let here : start + place + k ≡ start + (place + k) = omega arith in here)
-          (broken_before old.image new.image bytes (place + k) (start + place + k) found reads.viewed.image
-          (found_at tells k found there) none),
+          (broken_before old.image new.image bytes (place + k) (start + place + k) (cell_bytes row k)
+          reads.viewed.image (read_at tells k (omega (arith, less, all_of))) none),
     ),
   )
 

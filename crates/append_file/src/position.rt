@@ -159,7 +159,7 @@ pub fn read_byte<V: View>(view: &mut V, position: &mut Position) -> Result<u8, C
 }
 
 /// The next bytes of a part that has one more, and how many they are: what is left of a cell that was begun, or else
-/// what the next sixteen cells hold, or as many as there are. It reads these in one call, each of them once.
+/// what the next 256 cells hold, or as many as there are. It reads these in one call, each of them once.
 pub fn next_row<V: View>(
     view: &mut V,
     position: &mut Position,

@@ -1,9 +1,10 @@
 //! Neighbouring cells of a document part, read as a row.
-ghost use Rattle.std.specs.Prelude.{◌≡◌, ◌<◌, ◌≤◌, ◌+◌, ◌*◌, IfNone, IfSome, length, take};
+ghost use Rattle.std.specs.Prelude.{◌≡◌, ◌<◌, ◌≤◌, ◌+◌, ◌*◌, ◌/◌, ℕ, IfNone, IfSome, Some, length, take};
 ghost use Rattle.append_file.specs.Pieces.{IsNoPiece};
-ghost use Rattle.append_file.specs.Rows.{HasNoPiece, HoldsRow, PutsPiece, RowReadEnds};
+ghost use Rattle.append_file.specs.Rows.{GivesPiece, HasNoPiece, HoldsRow, PutsPiece, RowReadEnds};
 ghost use Rattle.append_file.specs.declared.row.TheConstants.{ROW_BYTES, ROW_CELLS};
 ghost use Rattle.volume_meaning.specs.Slots as slots;
+ghost use Rattle.worm_device.specs.ReadBytes.{cell_bytes};
 ghost use Rattle.worm_device.specs.Views.{Viewed};
 
 use crate::CONTENT_BYTES;
@@ -12,10 +13,10 @@ use cell_types::Cell;
 use worm_device::View;
 
 /// How many cells are read at once, at most.
-pub(crate) const ROW_CELLS: u32 = 16;
+pub(crate) const ROW_CELLS: u32 = 256;
 
-/// How many bytes of a document they hold, at most.
-pub const ROW_BYTES: usize = 240;
+/// How many bytes they have, which is room for the bytes of a document that they hold.
+pub const ROW_BYTES: usize = 4_096;
 
 /// The first byte of a content cell of fifteen bytes.
 const FULL_CELL: u8 = 31;
@@ -39,59 +40,67 @@ pub(crate) fn read_cells<V: View>(
 {
     // That its cells are fewer than 2 to the 32 is known to those who ask.
     let _cells = view.cells();
-    let mut found = [None; ROW_CELLS as usize];
-    let row = &mut found[..count as usize];
-    view.read_row(start + place, row)?;
-    let Some(length) = copy_row(bytes, place, row, into) else {
+    let row = &mut into[..16 * count as usize];
+    view.read_bytes(start + place, row)?;
+    let Some(length) = gather(bytes, place, row) else {
         return Err(ContentFault::Broken);
     };
     Ok(length)
 }
 
-/// Puts the bytes of a row of cells one behind another, and answers how many, if each cell is whole. The first of them
-/// has this place, in a part of so many bytes.
-fn copy_row(
-    bytes: u32,
-    place: u32,
-    row: &[Option<Cell>],
-    into: &mut [u8; ROW_BYTES],
-) -> Option<usize>
-    requires few { length row.now ≤ ROW_CELLS }
-    requires places { place + length row.now ≤ slots.cells_for bytes }
-    ensures some { IfSome result (λ n. HoldsRow bytes place row.now (take n into.new)) }
-    ensures count { IfSome result (λ n. length (take n into.new) ≡ n) }
-    ensures none { IfNone result (HasNoPiece bytes place row.now) }
+/// Moves the bytes that a row of cells holds to its front, one behind another, and answers how many, if each cell is
+/// whole. The first cell has this place, in a part of so many bytes.
+fn gather(bytes: u32, place: u32, row: &mut [u8]) -> Option<usize>
+    requires few { length row.old ≤ ROW_BYTES }
+    requires places { place + length row.old / 16 ≤ slots.cells_for bytes }
+    ensures some { IfSome result (λ n. HoldsRow bytes place (length row.old / 16) row.old (take n row.new)) }
+    ensures count { IfSome result (λ n. (length (take n row.new) ≡ n) × (n ≤ length row.new)) }
+    ensures none { IfNone result (HasNoPiece bytes place (length row.old / 16) row.old) }
 {
     let mut length = 0;
-    for k in 0..row.len() {
-        length += put_piece(row[k], bytes, place + k as u32, length, into)?;
+    for k in 0..row.len() / 16 {
+        length += move_piece(bytes, place, k, length, row)?;
     }
     Some(length)
 }
 
-/// Puts the bytes of a cell that was found at this place into the buffer, from this byte on, and answers how many, if the
-/// cell is whole.
-fn put_piece(
-    found: Option<Cell>,
-    bytes: u32,
-    place: u32,
-    at: usize,
-    into: &mut [u8; ROW_BYTES],
-) -> Option<usize>
-    requires place { 15 * place < bytes }
-    requires room { at + 15 ≤ ROW_BYTES }
-    ensures some { IfSome result (PutsPiece bytes place found at into.old into.new) }
-    ensures none { IfNone result (IsNoPiece bytes place found) }
+/// Moves what cell k of a row holds to this byte of the row and those behind it, and answers how many bytes it is, if the
+/// cell is whole. No cell behind it changes.
+fn move_piece(bytes: u32, place: u32, k: usize, at: usize, row: &mut [u8]) -> Option<usize>
+    requires inside { 16 * k + 16 ≤ length row.old }
+    requires few { length row.old ≤ ROW_BYTES }
+    requires before { at ≤ 15 * k }
+    requires place { 15 * (place + k) < bytes }
+    ensures size { length row.new ≡ length row.old }
+    ensures some { IfSome result (PutsPiece bytes (place + k) (cell_bytes row.old k) at row.old row.new) }
+    ensures others { IfSome result (λ n. (other : ℕ) → k < other
+        → cell_bytes row.new other ≡ cell_bytes row.old other) }
+    ensures none { IfNone result (IsNoPiece bytes (place + k) (Some (cell_bytes row.old k))) }
 {
-    let cell = found?;
-    let all = cell.bytes();
-    let room = &mut into[at..at + CONTENT_BYTES as usize];
+    let mut cell = [0; 16];
+    cell.copy_from_slice(&row[16 * k..16 * k + 16]);
+    give_piece(
+        &cell,
+        bytes,
+        place + k as u32,
+        &mut row[at..at + CONTENT_BYTES as usize],
+    )
+}
+
+/// Puts the bytes that a cell of this place holds into the room, and answers how many, if the cell is whole.
+fn give_piece(cell: &[u8; 16], bytes: u32, place: u32, room: &mut [u8]) -> Option<usize>
+    requires place { 15 * place < bytes }
+    requires room { length room.old ≡ 15 }
+    ensures size { length room.new ≡ 15 }
+    ensures some { IfSome result (GivesPiece bytes place cell.now room.new) }
+    ensures none { IfNone result (IsNoPiece bytes place (Some cell.now)) }
+{
     // Nearly all cells of a part are full, and there is nothing more to check in them.
-    if all[0] == FULL_CELL && bytes - CONTENT_BYTES * place >= CONTENT_BYTES {
-        room.copy_from_slice(&all[1..]);
+    if cell[0] == FULL_CELL && bytes - CONTENT_BYTES * place >= CONTENT_BYTES {
+        room.copy_from_slice(&cell[1..]);
         return Some(CONTENT_BYTES as usize);
     }
-    let held = piece_in(cell, bytes, place)?;
+    let held = piece_in(Cell::from_bytes(*cell)?, bytes, place)?;
     room.copy_from_slice(&held.bytes);
     Some(usize::from(held.length))
 }

@@ -33,11 +33,8 @@ impl Cell {
         ensures blank { IsNone result ↔ (bytes ≡ replicate 16 0) }
         ensures same { IfSome result (λ cell. cell ≡ bytes) }
     {
-        // Nearly every written cell begins with another byte than zero, and the others need no look then.
-        if bytes[0] != 0 {
-            return Some(Cell::of_kind(bytes));
-        }
-        if bytes == [0; 16] {
+        // As one number, so that the bytes are looked at together.
+        if u128::from_le_bytes(bytes) == 0 {
             return None;
         }
         Some(Cell { all: bytes })

@@ -54,6 +54,25 @@ pub fn decode(cell: Cell, address: u32) -> Option<RecordCell>
     Some(value)
 }
 
+/// The posting that the cell holds at this address, or `None` where it is no posting that is well-formed there. It is
+/// what `decode` answers, and cheaper.
+pub fn posting_at(cell: Cell, address: u32) -> Option<RecordCell>
+    ensures { IfSome result (λ r. IsRecordCell r address cell) }
+{
+    let all = cell.bytes();
+    if all[0] != POSTING {
+        return None;
+    }
+    if address != address_of(cell) {
+        return None;
+    }
+    let value = posting_of(&all[..12]);
+    if is_well_formed(&value, address) {
+        return Some(value);
+    }
+    None
+}
+
 /// The cell's last four bytes, where a record has its address.
 pub fn address_of(cell: Cell) -> u32
     ensures { result ≡ big_number 4 (drop 12 cell) }

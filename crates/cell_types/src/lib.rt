@@ -1,21 +1,22 @@
-//! The cells that everything on a volume is made of, and the words in which calls refuse.
+//! The cells that a volume is made of, and the refusals that calls end with.
 //!
-//! A cell is sixteen bytes and is written once. Sixteen zeros are a blank cell. A written cell that
-//! is a record has a kind, a body and its own number, so that it means nothing anywhere else:
+//! A cell has sixteen bytes and is written once. Sixteen zeros are a blank cell. Two sorts of written cells
+//! mean something. A record cell has a kind, a body and an address, which is the number of the cell where
+//! it counts:
 //!
-//!     cell 4    02  00000244 00000001 000000  00000004
-//!               kind  start    length           address     slot 0 reserves one cell, cell 580
+//!     cell 4    02  00000244 00000004 000000  00000004
+//!               kind  start    length           address     slot 0 reserves four cells, 580 to 583
 //!
-//! A written cell that holds bytes of a document is a content cell, and has no address:
+//! A content cell holds bytes of a document, and has no address:
 //!
 //!     cell 580  1d  01 61 68656c6c6f20776f726c64  0000
-//!               13 bytes: the identifier's length, `a`, `hello world`; then zeros
+//!               13 bytes: the length of the identifier, `a`, `hello world`; then zeros
 //!
-//! Nothing here reads or writes a device. `decode` answers exactly on the cells that `encode` makes,
-//! whatever the bytes, and no cell is a record and content at once.
+//! `encode` makes the cell of a record, and `decode` gives the record back. For any other sixteen bytes it
+//! answers `None`. No cell is both a record and content. Nothing here reads or writes a device.
 //!
-//! Stands on `byteorder` and `thiserror`. Begin with `cell.rt`, and then `specs/Records.antt`, which says
-//! what each kind holds and when it is well-formed.
+//! Stands on `byteorder`, for numbers in bytes, and `thiserror`, for the lines of refusals. Begin with
+//! `cell.rt`. Then `specs/Records.antt` says what each kind holds, and when it is well-formed.
 #![tactic(auto)]
 
 mod cell;
@@ -27,7 +28,7 @@ mod record_cell;
 mod refusal;
 
 pub use cell::Cell;
-pub use codec::{address_of, decode, encode, no_record_is_content, records_are_one};
+pub use codec::{address_of, decode, encode, no_record_is_content, posting_at, records_are_one};
 pub use content_cell::{content, content_of, contents_are_one};
 pub use geometry::{
     FIRST_VERSION, FOLDED_VERSION, Geometry, MAX_CELLS, MAX_LISTS, MAX_SLOTS, NEWEST_VERSION,

@@ -4,4 +4,5 @@ pub mod CellsSeen
 pub mod HorizonSoFar
 pub mod LooksAsOne
 pub mod OneState
+pub mod RowSeen
 pub mod StampRead

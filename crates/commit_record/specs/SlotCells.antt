@@ -1,5 +1,5 @@
 -- What was found in the cells of a slot makes a state, whatever two images it was found between.
-use Rattle.std.specs.Prelude.{◌≡◌, ℕ, List, Option, Some, None, Result, Ok, Err, IsTrue, ⊤}
+use Rattle.std.specs.Prelude.{◌≡◌, ℕ, List, Option, Some, None, Result, Ok, Err, IsTrue, slice_get, ⊤}
 use Rattle.cell_types.specs.Image.{Image}
 use Rattle.cell_types.specs.Layout.{Layout, reserve_at, outcome_at, done_at, spare_at}
 use Rattle.cell_types.specs.declared.geometry.TheConstants.{STAMPED_VERSION}
@@ -9,7 +9,7 @@ use Rattle.cell_types.specs.declared.refusal.Evidence.{Evidence}
 use Rattle.volume_meaning.specs.Slots.{Commits, Reserves}
 use Rattle.tamper_rules.specs.Rules.{IsPlaceOf}
 use Rattle.worm_device.specs.Counts.{Rose}
-use Rattle.worm_device.specs.Looks.{IsSeen}
+use Rattle.worm_device.specs.Looks.{IsOfCell, IsSeen}
 use Rattle.worm_device.specs.Views.{ViewState}
 use Rattle.worm_device.specs.declared.device.Failed.{Failed}
 use Rattle.commit_record.specs.States.{IsNoState, IsState, StateLiesInPool}
@@ -82,3 +82,17 @@ CellsEnd Seen g n (Err e) =
     IsPlaceOf g e.rule e.cell
     × ((before after : Image) → Seen before after
     → (after e.cell ≡ Some e.found) × IsNoState g before after n e.rule e.cell)
+
+-- What a row makes that begins with slot n's reserve, outcome and done cell: what was found in each, and what these are.
+pub record RowEnds (g : Layout) (n : ℕ) (row : List (Option (List ℕ))) (stamp : Option Found)
+    (result : Result SlotState Evidence) : Type 0 where
+  pub reserve : Found
+  pub outcome : Found
+  pub done : Found
+  pub reserve_of : IsOfCell (reserve_at n) reserve
+  pub outcome_of : IsOfCell (outcome_at n) outcome
+  pub done_of : IsOfCell (done_at n) done
+  pub reserve_is : slice_get row 0 ≡ Some (found_cell reserve)
+  pub outcome_is : slice_get row 1 ≡ Some (found_cell outcome)
+  pub done_is : slice_get row 2 ≡ Some (found_cell done)
+  pub ends : CellsEnd (SeenCells g n reserve outcome done stamp) g n result

@@ -1,8 +1,8 @@
-//! What is read of a volume's log: which volume cell 0 states, in which state a slot is, and where the log ends.
+//! Reads the log of a volume: which layout cell 0 states, which state a slot is in, and where the log ends.
 //!
-//! The log is four cells a slot, and three of them say what has come of it; where documents are stamped, the fourth has
-//! the stamp. On a volume of 8 slots and 2 lists on 1,000 cells, whose pool begins at cell 580, with one document
-//! stored in slot 0:
+//! The log has four cells for each slot. Three of them give its state. The fourth is spare; if documents
+//! are stamped, it holds the stamp. Take the volume of 8 slots and 2 lists on 1,000 cells with one
+//! document, in slot 0:
 //!
 //!     cell 0   volume, 1,000 cells     `open` answers 8 slots, 2 lists, version 1
 //!          4   reserve 580, 4      \
@@ -15,35 +15,34 @@
 //!     unused --reserve--> reserved --commit--> committed --done--> done
 //!                             \----abandon---> abandoned
 //!
-//! No cell is trusted. Cells that are no state are evidence of tampering: the first of them that is out of place, with
-//! rule 1 at the reserve cell, rule 2 at the outcome cell, rule 3 at the done cell. Where cell 9 of this volume is an
-//! abandon cell, slot 1 is given up and reserves nothing: rule 2 at cell 9. On a volume of stamped documents a slot is
-//! committed or done only with a stamp in its fourth cell, here cell 7: without one, its commit cell is out of place, and
-//! rule 2 is named at cell 5.
+//! Any cell may be a forgery. If the cells of a slot make no state, the call names the first one that is
+//! wrong: a reserve cell by rule 1, an outcome cell by rule 2, a done cell by rule 3. Suppose somebody
+//! writes an abandon cell into cell 9. Then slot 1 is given up but reserves nothing, so cell 9 breaks rule
+//! 2. If documents are stamped, a commit cell without a stamp beside it breaks rule 2 as well: here cell 5,
+//! if cell 7 holds no stamp.
 //!
-//! Cells are read one after another, and somebody else may write in between. So a state is said of two images: what it
-//! needs written stands at the call's exit, and what it needs blank was blank at its entry. So is a stamp that is
-//! missing: its cell was blank at entry, and somebody else may have written it since. What an answer says of its own
-//! numbers, as that a state's cells lie in the pool, holds over every view, also over one that does not tell.
+//! Cells are read one after another, and somebody else may write meanwhile. So an answer speaks of two
+//! images. What it says is written stands when the call ends. What it says is blank, a missing stamp too,
+//! was blank when the call began. What it says about its own numbers, such as that the cells of a slot lie
+//! in the pool, holds for every device, even one that cannot tell what it holds.
 //!
-//! The log is not walked: a horizon is a slot that is free, behind one that is taken, and one of these is found by
-//! bisection. The last slot is asked first, so that a full log is told from it alone. With slots 0 to 4 taken:
+//! The end of the log is found by halving, without reading every slot. A horizon is a free slot behind a
+//! taken one. The last slot is read first, so one read shows that a log is full. With slots 0 to 4 taken:
 //!
 //!     slot 7   free      the horizon is one of 0 to 7
 //!          3   taken     one of 4 to 7
 //!          5   free      one of 4 to 5
 //!          4   taken     5
 //!
-//! Where nobody else ever wrote, slots are taken in a row, and it is the only horizon. On any other image a free slot
-//! may stand before it, and taken ones behind.
+//! If nobody else has ever written, this is the only horizon, since slots are taken in order. Otherwise
+//! there may be free slots before it and taken ones behind it.
 //!
-//! `open` and `stamp_of` make one read, `slot_state` at most three, and one more where documents are stamped, `horizon`
-//! and `end_of_log` at most 26, and `parts` none. `end_of_log` hands over the last reserve cell as well, and `slot_state_of`
-//! goes on from there: it makes one read less, and never finds the slot unused, whatever the device answers. Nothing
-//! takes memory.
+//! Reads at most: `open` and `stamp_of` 1, `slot_state` 3 in one row, or 4 if documents are stamped, `horizon` and
+//! `end_of_log` 26, `parts` none. `end_of_log` also hands over the last reserve cell. `slot_state_of` goes
+//! on from such a cell: it saves one read, and never answers Unused. Nothing takes memory.
 //!
-//! Stands on `volume_meaning` and `tamper_rules` for the words, and on `worm_device` for views. Begin with `slot.rt`;
-//! `specs/States.antt` says what its answers mean.
+//! Stands on `volume_meaning` and `tamper_rules`, which have the words, and on `worm_device`, which has the
+//! views. Begin with `slot.rt`. `specs/States.antt` says what its answers mean.
 #![tactic(auto)]
 
 mod laws;
@@ -54,6 +53,7 @@ mod reservation;
 mod slot;
 mod slot_cells;
 mod slot_parts;
+mod slot_row;
 mod stamp_cell;
 mod used_slot;
 

@@ -4,10 +4,9 @@ ghost use Rattle.worm_device.specs.Views.{Viewed};
 ghost use Rattle.commit_record.specs.Partition.{HasRoom};
 ghost use Rattle.commit_record.specs.States.{StateEnds, stamp_cells};
 
-use crate::slot_cells::state_of_cells;
-use crate::stamp_cell::look_at_stamp;
-use cell_types::{Fault, Volume};
-use worm_device::{View, look};
+use crate::slot_row::{plain_state, stamped_state};
+use cell_types::{Fault, STAMPED_VERSION, Volume};
+use worm_device::View;
 
 /// What has come of a slot. `start` is the first cell that it reserves and `length` how many they are; `bytes` is how
 /// many stored bytes its document has, and `journal` how many cells its journal has.
@@ -52,10 +51,8 @@ pub fn slot_state<V: View>(view: &mut V, volume: &Volume, slot: u32) -> Result<S
     ensures room { IfOk result (λ state. HasRoom state) }
     ensures ends { StateEnds volume.now.geometry slot (V.seen view.old) (V.seen view.new) result }
 {
-    let geometry = volume.geometry;
-    let reserve = look(view, geometry.reserve_at(slot))?;
-    let outcome = look(view, geometry.outcome_at(slot))?;
-    let stamp = look_at_stamp(view, &geometry, slot)?;
-    let done = look(view, geometry.done_at(slot))?;
-    Ok(state_of_cells(&geometry, slot, reserve, outcome, done, stamp)?)
+    if volume.geometry.version() == STAMPED_VERSION {
+        return stamped_state(view, &volume.geometry, slot);
+    }
+    plain_state(view, &volume.geometry, slot)
 }

@@ -63,6 +63,24 @@ fn read_row(
     device.read_row(at, cells)
 }
 
+/// Reads the bytes of neighbouring cells that the device has.
+fn read_bytes(
+    rt: &impl Abort,
+    device: &mut impl Device,
+    at: u32,
+    bytes: &mut [u8],
+) -> Result<(), Failed> {
+    assert!(rt;
+        bytes.len() % 16 == 0 && bytes.len() <= 16_000,
+        "no test reads more"
+    );
+    assert!(rt;
+        at < 10_000 && at + (bytes.len() / 16) as u32 <= device.cells(),
+        "there are cells from {at} on"
+    );
+    device.read_bytes(at, bytes)
+}
+
 /// Writes neighbouring cells that the device has.
 fn write_row(
     rt: &impl Abort,
@@ -404,6 +422,52 @@ fn the_file_is_held_from_the_first_call_until_a_sync_fails(rt: HostRuntime) -> R
 #[test]
 fn a_file_that_was_cut_short_before_it_was_held_is_not_read(rt: HostRuntime) -> Result<(), Fail> {
     assert_eq!(rt; &calls_of(&rt, 16)?, b"hehehehehe......");
+    Ok(())
+}
+
+/// The page of cell 5 holds cells 0 to 255. So the first bytes take no call, and the others one each.
+#[test]
+fn bytes_come_of_a_held_page_or_of_the_file(rt: HostRuntime) -> Result<(), Fail> {
+    let calls = cell::Cell::new([b'.'; 16]);
+    let file = LoggingFile {
+        calls: &calls,
+        count: cell::Cell::new(0),
+        size: 16_000,
+    };
+    let pages = Pages::new(rt.alloc())?;
+    let Ok(mut device) = FileDevice::over(OsFile::over(file, 16_000), pages) else {
+        panic!(rt; "16,000 bytes are 1,000 cells");
+    };
+    assert_eq!(rt; read(&rt, &mut device, 5), Ok(None));
+    assert_eq!(rt; &calls.get(), b"her.............");
+    let mut bytes = [0; 320];
+    assert_eq!(rt; read_bytes(&rt, &mut device, 236, &mut bytes), Ok(()));
+    assert_eq!(rt; &calls.get(), b"her.............");
+    assert_eq!(rt; read_bytes(&rt, &mut device, 237, &mut bytes), Ok(()));
+    assert_eq!(rt; &calls.get(), b"herr............");
+    assert_eq!(rt; read_bytes(&rt, &mut device, 980, &mut bytes), Ok(()));
+    assert_eq!(rt; &calls.get(), b"herrr...........");
+    Ok(())
+}
+
+/// Cells 250 to 259 lie on two pages, and cells 300 to 309 on one, which is held once cell 305 was read.
+#[test]
+fn bytes_are_those_of_each_cell(rt: HostRuntime) -> Result<(), Fail> {
+    let bytes = numbered(rt.alloc(), 1_000)?;
+    let mut device = over_memory(&rt, bytes, 2, Leaving::Nothing)?;
+    let mut found = [0; 160];
+    assert_eq!(rt; read_bytes(&rt, &mut device, 250, &mut found), Ok(()));
+    // The second call fails.
+    assert_eq!(rt; read_bytes(&rt, &mut device, 300, &mut found), Err(Failed));
+    for (at, end) in [(250, 260), (300, 310u32)] {
+        let _held = read(&rt, &mut device, 305);
+        assert_eq!(rt; read_bytes(&rt, &mut device, at, &mut found), Ok(()));
+        let mut wanted = Vec::new(rt.alloc());
+        for number in at..end {
+            wanted.extend_from_slice(&u128::from(number).to_be_bytes())?;
+        }
+        assert_eq!(rt; found.as_slice(), wanted.as_slice());
+    }
     Ok(())
 }
 

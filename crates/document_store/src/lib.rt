@@ -1,24 +1,27 @@
-//! The documents of a volume, read and checked, each cell of them once.
+//! Reads the documents of a volume and checks them, each of their cells once.
 //!
-//! A document lies in its slot's cells before the journal, as content cells that spell its stored bytes: one byte that
-//! says how long the identifier is, the identifier, and the body. Slot 0 with the document `a`, `hello world`:
+//! A document lies in the cells of its slot, before the journal. Its content cells spell its stored bytes:
+//! the length of the identifier in one byte, the identifier, and the body. Slot 0 with the document `a`,
+//! `hello world`:
 //!
 //!     cell 4      reserve cell     580, 4 cells
 //!     cell 5      commit cell      13 stored bytes, 3 journal cells
 //!     cell 580    content cell     01 61 68 65 6c 6c 6f 20 77 6f 72 6c 64
 //!
-//! A slot that is done **holds** a document where each of these cells is the content cell of its place, and they spell
-//! an identifier of 1 to 200 printing characters and a body of at most 1,048,576 bytes, in as many bytes as the commit
-//! cell states. Where it holds none, the evidence is its commit cell, by rule 4. No cell is trusted: what a look found
-//! is said of the image at its exit, and what it found missing was so at its entry.
+//! A done slot **holds** a document if each of these cells is the right content cell for its place, and if
+//! together they spell an identifier of 1 to 200 printing characters and a body of at most 1,048,576 bytes,
+//! in exactly the number of bytes that the commit cell states. If it holds none, its commit cell is named,
+//! by rule 4. Any cell may be a forgery. What a call found stands when it ends. What it found missing was
+//! missing when it began.
 //!
-//! The calls on a slot ask that it is done. Whoever walks along slots asks `slot_part` first, which says where the
-//! document of a done slot lies, and then asks `part_has_identifier`, or reads it by `read_part`, or by `read_head` and
-//! `next_row`; `name_commit` names the commit cell of one that is broken.
+//! Most calls need a slot that is done. So call `slot_part` first: it says where the document lies, if the
+//! slot is done. Then `part_has_identifier` compares the identifier, `read_part` reads the document whole,
+//! and `read_head` with `next_row` reads it in pieces. `name_commit` names the commit cell of a document
+//! that is broken.
 //!
-//! Stands on `append_file` (bytes of cells), `commit_record` (states of slots) and `host_ports` (a sink for a body).
-//! Begin with `part.rt`; specs/Standing.antt says what it means to hold a document, and specs/Looks.antt how each call
-//! may end.
+//! Stands on `append_file`, which reads bytes from cells, `commit_record`, which reads states of slots, and
+//! `host_ports`, whose sink takes a body. Begin with `part.rt`. `specs/Standing.antt` says what it means to
+//! hold a document, and `specs/Looks.antt` how each call may end.
 #![tactic(auto)]
 
 mod body;

@@ -10,7 +10,7 @@ use Rattle.cell_types.specs.Image.{Extends, ChangesOnly}
 use Rattle.host_files.specs.Cells.{are_zeros, cell_in, image_of_bytes}
 use Rattle.host_files.specs.File.{part_at, patched}
 use Rattle.host_files.specs.Proper.{within_image}
-use Rattle.host_files.proofs.PageCells.{put_holds, put_others}
+use Rattle.worm_device.proofs.CellBytes.{put_holds, put_others}
 
 -- bytes that are all zero are zeros
 pub zeros_are : (bytes : List ℕ) → are_zeros bytes ≡ true → bytes ≡ replicate (length bytes) 0

@@ -2,11 +2,11 @@ pub mod Changes
 pub mod Crashing
 pub mod Images
 pub mod PageBytes
-pub mod PageCells
 pub mod PageSets
 pub mod PlacesLeft
 pub mod PlacesMade
 pub mod PlacesPut
+pub mod ReadDirectly
 pub mod Reading
 pub mod RowAsked
 pub mod RowBytes

@@ -2,7 +2,7 @@
 use Rattle.std.specs.Prelude.{◌≡◌, ◌≤◌, ◌+◌, ◌*◌, ◌++◌, ℕ, List, length, take, drop, Option, Some, IfSome, Result, Ok, OnOk}
 use Rattle.std.proofs.Common.{◌∙◌, ap, sym}
 use Rattle.std.proofs.lemmas.List.{drop-take, take-take, drop-drop, take-append-le}
-use Rattle.host_files.specs.Cells.{cell_bytes}
+use Rattle.worm_device.specs.ReadBytes.{cell_bytes}
 use Rattle.host_files.specs.File.{Told}
 
 -- a cell of the first bytes of a page, where these are the bytes of the file from an offset on

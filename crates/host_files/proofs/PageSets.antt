@@ -5,9 +5,10 @@ use Rattle.std.proofs.lemmas.Option.{none-some, same_Some, slice_get-get_or, sli
 use Rattle.std.proofs.lemmas.List.{length-set, get_or-set_same}
 use Rattle.std.proofs.lemmas.Bool.Decides.{eqb_tells}
 use Rattle.worm_device.specs.declared.device.Failed.{Failed}
-use Rattle.host_files.specs.Cells.{cell_bytes, cell_in}
+use Rattle.worm_device.specs.ReadBytes.{cell_bytes}
+use Rattle.host_files.specs.Cells.{cell_in}
 use Rattle.host_files.specs.File.{patched}
-use Rattle.host_files.proofs.PageCells.{put_holds, put_others}
+use Rattle.worm_device.proofs.CellBytes.{put_holds, put_others}
 use Rattle.host_files.specs.Pages.{PageHolds, PagesHold, IsOn, ArePagesApart}
 use Rattle.host_files.specs.declared.pages.Page.{Page}
 

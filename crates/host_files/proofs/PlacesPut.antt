@@ -7,11 +7,11 @@ use Rattle.worm_device.specs.Rows.{WritesRow}
 use Rattle.worm_device.specs.declared.device.RowWritten.TheVariants.{Whole}
 use Rattle.worm_device.specs.declared.device.Written.TheVariants.{Done}
 use Rattle.worm_device.proofs.Rows.{HasWritten, row_more, row_none, row_whole}
-use Rattle.host_files.specs.Cells.{cell_bytes}
+use Rattle.worm_device.specs.ReadBytes.{cell_bytes}
 use Rattle.host_files.specs.Device.{device_at}
 use Rattle.host_files.specs.File.{HeldBytes, Told, PutsBytes, PutsPlaces, part_at, patched}
 use Rattle.host_files.specs.Rows.{AreRow}
-use Rattle.host_files.proofs.PageCells.{put_others}
+use Rattle.worm_device.proofs.CellBytes.{put_others}
 use Rattle.host_files.proofs.Writing.{writes_left}
 
 -- the places from this one on are blank, and the file has room for the device

@@ -8,7 +8,8 @@ use Rattle.worm_device.specs.Counts.{next_count, Rose}
 use Rattle.worm_device.specs.ReadRows.{AreFoundBetween, IsFoundBetween, ReadsRow}
 use Rattle.worm_device.specs.declared.device.Failed.{Failed}
 use Rattle.worm_device.proofs.Elapsing.{leaves_all}
-use Rattle.host_files.specs.Cells.{AreCellsIn, cell_in, cell_bytes, image_of_bytes}
+use Rattle.worm_device.specs.ReadBytes.{cell_bytes}
+use Rattle.host_files.specs.Cells.{AreCellsIn, cell_in, image_of_bytes}
 use Rattle.host_files.specs.Device.{device_at, device_over, now_in}
 use Rattle.host_files.specs.File.{FileState, Told, AsksFile}
 use Rattle.host_files.specs.Pages.{AreToldOf, PagesHold, Mirror}

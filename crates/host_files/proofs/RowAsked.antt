@@ -9,7 +9,7 @@ use Rattle.worm_device.specs.declared.device.Failed.{Failed}
 use Rattle.worm_device.specs.State.{DeviceState}
 use Rattle.worm_device.specs.declared.device.RowWritten.{RowWritten}
 use Rattle.worm_device.specs.declared.device.RowWritten.TheVariants.{Whole}
-use Rattle.host_files.specs.Cells.{cell_bytes}
+use Rattle.worm_device.specs.ReadBytes.{cell_bytes}
 use Rattle.host_files.specs.Device.{device_at, device_over, SureStands}
 use Rattle.host_files.specs.File.{FileState, IsFile, Told, ReadsAt, PutsPlaces, LeavesPlaces, WritesPlaces}
 use Rattle.host_files.specs.Pages.{IsNowhere, Mirror}

@@ -2,7 +2,7 @@
 use Rattle.std.specs.Prelude.{◌≡◌, ◌≢◌, ◌<◌, ◌+◌, ◌⊎◌, ℕ, List, length, slice_get, Some}
 use Rattle.std.proofs.Common.{◌∙◌, ap, sym, subst, arith, ⊎_elim}
 use Rattle.cell_types.specs.Bytes.{IsCell}
-use Rattle.host_files.specs.Cells.{cell_bytes}
+use Rattle.worm_device.specs.ReadBytes.{cell_bytes}
 use Rattle.host_files.specs.Rows.{AreRow}
 
 pub record AreFirst (count : ℕ) (values : List (List ℕ)) (bytes : List ℕ) : Type 0 where

@@ -5,7 +5,8 @@ use Rattle.std.proofs.lemmas.Bool.{cases_lt}
 use Rattle.std.proofs.lemmas.List.{get_or-take, get_or-drop, length-take, length-drop, length-append}
 use Rattle.std.proofs.lemmas.Option.{slice_get-get_or, get_or_from_slice_get, same_Some}
 use Rattle.std.proofs.lemmas.Slice.{take-put_mid_below, between-put_mid}
-use Rattle.host_files.specs.Cells.{AreCellsIn, cell_in, cell_bytes}
+use Rattle.worm_device.specs.ReadBytes.{cell_bytes}
+use Rattle.host_files.specs.Cells.{AreCellsIn, cell_in}
 use Rattle.host_files.specs.File.{AsksFile, FileState, Told}
 use Rattle.host_files.specs.Pages.{HoldOn, IsOn, PagesHold}
 use Rattle.host_files.specs.declared.pages.Page.{Page}

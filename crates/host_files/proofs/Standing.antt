@@ -5,7 +5,8 @@ use Rattle.std.proofs.lemmas.Bool.{cases_lt}
 use Rattle.std.proofs.lemmas.Option.{none-some, same_Some}
 use Rattle.worm_device.specs.declared.device.Failed.{Failed}
 use Rattle.worm_device.proofs.Images.{extends_self, extends_then}
-use Rattle.host_files.specs.Cells.{cell_in, cell_bytes, image_of_bytes}
+use Rattle.worm_device.specs.ReadBytes.{cell_bytes}
+use Rattle.host_files.specs.Cells.{cell_in, image_of_bytes}
 use Rattle.host_files.specs.Device.{held_instant, StandsIn, SureStands}
 use Rattle.host_files.specs.File.{HeldBytes, Told, Becomes, PutsBytes, MakesSure, patched}
 use Rattle.host_files.specs.Pages.{PagesHold, Mirror}

@@ -6,7 +6,7 @@ use Rattle.worm_device.specs.Calls.{Writes}
 use Rattle.worm_device.specs.Counts.{Rose}
 use Rattle.worm_device.specs.declared.device.Failed.{Failed}
 use Rattle.worm_device.specs.declared.device.Written.TheVariants.{Done}
-use Rattle.host_files.specs.Cells.{cell_bytes}
+use Rattle.worm_device.specs.ReadBytes.{cell_bytes}
 use Rattle.host_files.specs.Device.{device_over, SureStands}
 use Rattle.host_files.specs.File.{FileState, IsFile, Told, PutsBytes, LeavesAtWrite, ReadsAt, WritesAt, part_at, patched}
 use Rattle.host_files.specs.Pages.{PagesHold, Mirror}

@@ -12,7 +12,8 @@ use Rattle.worm_device.specs.declared.device.Written.TheVariants.{Done, Taken}
 use Rattle.worm_device.proofs.Images.{extends_self}
 use Rattle.worm_device.proofs.Counting.{rose_or_still}
 use Rattle.worm_device.proofs.Elapsing.{leaves_all}
-use Rattle.host_files.specs.Cells.{cell_in, cell_bytes, image_of_bytes}
+use Rattle.worm_device.specs.ReadBytes.{cell_bytes}
+use Rattle.host_files.specs.Cells.{cell_in, image_of_bytes}
 use Rattle.host_files.specs.Device.{device_at, device_over}
 use Rattle.host_files.specs.File.{FileState, HeldBytes, Told, PutsBytes, ReadsAt, part_at, patched}
 use Rattle.host_files.specs.Proper.{within_image}

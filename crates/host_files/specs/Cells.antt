@@ -1,7 +1,7 @@
 -- The cells of a device among the bytes of a file.
-use Rattle.std.specs.Prelude.{◌≡◌, ◌<◌, ◌==◌, ◌&&◌, ◌+◌, ◌*◌, if◌then◌else◌, nat_lt, ℕ, Bool, true, List, [], ◌∷◌, Option, Some, None, slice_get}
+use Rattle.std.specs.Prelude.{◌≡◌, ◌<◌, ◌==◌, ◌&&◌, ◌+◌, if◌then◌else◌, nat_lt, ℕ, Bool, true, List, [], ◌∷◌, Option, Some, None, slice_get}
 use Rattle.cell_types.specs.Image.{Image}
-use Rattle.host_files.specs.File.{part_at}
+use Rattle.worm_device.specs.ReadBytes.{cell_bytes}
 
 -- all of them are zero
 abbrev pub are_zeros : List ℕ → Bool
@@ -11,10 +11,6 @@ are_zeros (byte ∷ bytes) = (byte == 0) && are_zeros bytes
 -- what sixteen bytes are as a cell: blank where all of them are zero
 abbrev pub cell_in : List ℕ → Option (List ℕ)
 cell_in bytes = if are_zeros bytes then None else Some bytes
-
--- the bytes of a cell
-abbrev pub cell_bytes : List ℕ → ℕ → List ℕ
-cell_bytes bytes cell = part_at (16 * cell) bytes
 
 -- what stands in the first so many cells of a file of these bytes
 abbrev pub image_of_bytes : ℕ → List ℕ → Image

@@ -1,6 +1,7 @@
 -- What the pages of a file hold.
-use Rattle.std.specs.Prelude.{◌≡◌, ◌<◌, ◌≤◌, ◌+◌, ◌*◌, ℕ, List, length, slice_get, Option, Some}
-use Rattle.host_files.specs.Cells.{AreCellsIn, cell_bytes, cell_in}
+use Rattle.std.specs.Prelude.{◌≡◌, ◌<◌, ◌≤◌, ◌+◌, ◌*◌, ◌/◌, ℕ, List, length, slice_get, Option, Some}
+use Rattle.worm_device.specs.ReadBytes.{cell_bytes}
+use Rattle.host_files.specs.Cells.{AreCellsIn, cell_in}
 use Rattle.host_files.specs.File.{Told, patched}
 use Rattle.host_files.specs.declared.pages.Page.{Page}
 
@@ -49,6 +50,12 @@ IsToldOf cells at told pages found =
 abbrev pub AreToldOf : ℕ → ℕ → Option Told → List Page → List (Option (List ℕ)) → Type 0
 AreToldOf cells at told pages found =
     (t : Told) → told ≡ Some t → PagesHold cells t.now.bytes pages → AreCellsIn (length found) at found t.now.bytes
+
+-- where the pages hold what is in a file, these are the bytes of its cells from this one on
+abbrev pub AreToldBytes : ℕ → List Page → List ℕ → Type 0
+AreToldBytes at pages found =
+    (cells : ℕ) (bytes : List ℕ) → PagesHold cells bytes pages → at + length found / 16 ≤ cells
+    → (place : ℕ) → place < length found / 16 → cell_bytes found place ≡ cell_bytes bytes (at + place)
 
 -- where the old pages hold the bytes, the new ones hold them with this piece in the cell
 abbrev pub HoldPut : ℕ → List ℕ → List Page → List Page → Type 0

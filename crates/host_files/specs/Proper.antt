@@ -8,7 +8,8 @@ use Rattle.std.proofs.lemmas.Option.{none-some, same_Some}
 use Rattle.cell_types.specs.Bytes.{AreBytes, IsCell}
 use Rattle.cell_types.specs.declared.geometry.TheConstants.{MAX_CELLS}
 use Rattle.worm_device.specs.State.{IsDevice}
-use Rattle.host_files.specs.Cells.{are_zeros, cell_in, cell_bytes, image_of_bytes}
+use Rattle.worm_device.specs.ReadBytes.{cell_bytes}
+use Rattle.host_files.specs.Cells.{are_zeros, cell_in, image_of_bytes}
 use Rattle.host_files.specs.Device.{device_over, now_in, SureStands}
 use Rattle.host_files.specs.Memory.{FileMemory, held_at, file_of}
 use Rattle.host_files.specs.File.{FileState, IsFile, Told, part_at}

@@ -2,9 +2,10 @@
 //!
 //! A write does not trust the pages: it asks the file itself whether the cell is blank, right before it writes, and
 //! puts what it found or wrote onto the cell's page. So does a row, a page at a time, and holds that page no longer.
-ghost use Rattle.std.specs.Prelude.{◌≡◌, ◌<◌, ◌≤◌, ◌+◌, ◌^◌, length};
+ghost use Rattle.std.specs.Prelude.{◌≡◌, ◌<◌, ◌≤◌, ◌+◌, ◌/◌, ◌%◌, ◌^◌, length};
 ghost use Rattle.worm_device.specs.Calls.{Reads, Writes, Syncs};
 ghost use Rattle.worm_device.specs.Counts.{next_count};
+ghost use Rattle.worm_device.specs.ReadBytes.{ReadsBytes};
 ghost use Rattle.worm_device.specs.ReadRows.{ReadsRow};
 ghost use Rattle.worm_device.specs.Rows.{WritesRow};
 ghost use Rattle.host_files.specs.Device.{device_over};
@@ -30,6 +31,16 @@ impl<F: HostFile> Device for FileDevice<F> {
     fn read_row(&mut self, at: u32, cells: &mut [Option<Cell>]) -> Result<(), Failed> {
         self.reads = self.reads.saturating_add(cells.len() as u64);
         self.pages.read_row(&mut self.file, self.cells, at, cells)
+    }
+
+    /// Where they lie on a page that is held it answers. Else the file itself is asked, and no page is read for them:
+    /// that would take 4,096 bytes for a few cells.
+    fn read_bytes(&mut self, at: u32, bytes: &mut [u8]) -> Result<(), Failed> {
+        self.reads = self.reads.saturating_add((bytes.len() / 16) as u64);
+        if self.pages.copy_held(at, bytes) {
+            return Ok(());
+        }
+        self.file.read_at(bytes, 16 * u64::from(at))
     }
 
     fn write(&mut self, at: u32, value: Cell) -> Result<Written, Failed> {

@@ -1,6 +1,7 @@
 //! One page of a file in memory: the bytes of 256 cells.
 ghost use Rattle.std.specs.Prelude.{◌≡◌, ◌≢◌, ◌<◌, ◌≤◌, ◌+◌, ◌*◌, ◌%◌, ℕ, length};
-ghost use Rattle.host_files.specs.Cells.{AreCellsIn, cell_bytes, cell_in};
+ghost use Rattle.worm_device.specs.ReadBytes.{cell_bytes};
+ghost use Rattle.host_files.specs.Cells.{AreCellsIn, cell_in};
 
 use cell_types::Cell;
 

@@ -7,8 +7,9 @@
 //!
 //! What is held is what the file gave, or what was written through here since. What somebody else writes into the
 //! file meanwhile shows once the page is read anew.
-ghost use Rattle.std.specs.Prelude.{◌≡◌, ◌≢◌, ◌<◌, ◌≤◌, ◌+◌, ◌*◌, ◌/◌, ℕ, List, None, Some, slice_get, vec_len, length, IfOk, IfSome, IsNone, OnOk, OnErr};
-ghost use Rattle.host_files.specs.Cells.{cell_bytes, cell_in};
+ghost use Rattle.std.specs.Prelude.{◌≡◌, ◌≢◌, ◌<◌, ◌≤◌, ◌+◌, ◌*◌, ◌/◌, ◌%◌, ℕ, true, List, None, Some, slice_get, vec_len, length, IfOk, IfSome, IsNone, OnOk, OnErr};
+ghost use Rattle.worm_device.specs.ReadBytes.{cell_bytes};
+ghost use Rattle.host_files.specs.Cells.{cell_in};
 ghost use Rattle.host_files.specs.File.{Told, AsksFile};
 ghost use Rattle.host_files.specs.Pages.{PageHolds, ArePagesApart};
 
@@ -66,7 +67,7 @@ pub struct Pages {
 }
 
 impl Pages {
-    ghost use Rattle.host_files.specs.Pages.{PagesHold, IsOn, IsNowhere, HoldNothing, HoldOn, HoldPut, IsToldOf, AreToldOf};
+    ghost use Rattle.host_files.specs.Pages.{PagesHold, IsOn, IsNowhere, HoldNothing, HoldOn, HoldPut, IsToldOf, AreToldOf, AreToldBytes};
     ghost use Rattle.host_files.specs.declared.pages.Page.{Page};
 
     /// Takes the memory, some 64 KiB. Nothing is held.
@@ -214,6 +215,25 @@ impl Pages {
             done = end;
         }
         Ok(())
+    }
+
+    /// Copies the bytes of neighbouring cells, where all of them lie on one page and it is held. Says whether it did.
+    pub(crate) fn copy_held(&self, at: u32, bytes: &mut [u8]) -> bool
+        requires whole { length bytes.old % 16 ≡ 0 }
+        ensures size { length bytes.new ≡ length bytes.old }
+        ensures held { result ≡ true → AreToldBytes at self.now.pages.items bytes.new }
+    {
+        let place = (at % PAGE_CELLS) as usize;
+        if place + bytes.len() / 16 > PAGE_CELLS as usize {
+            return false;
+        }
+        let Some(frame) = self.find(at / PAGE_CELLS) else {
+            return false;
+        };
+        let page = &self.pages[frame];
+        let from = 16 * place;
+        bytes.copy_from_slice(&page.bytes[from..from + bytes.len()]);
+        true
     }
 
     /// The cell stands in the file now.

@@ -4,3 +4,4 @@ pub mod FrontReads
 pub mod Knowing
 pub mod KnownReads
 pub mod OneBlock
+pub mod Rowing

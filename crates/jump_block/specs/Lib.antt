@@ -4,4 +4,5 @@ pub mod Keeping
 pub mod Known
 pub mod Pointers
 pub mod Pointing
+pub mod RowFronts
 pub mod Spans

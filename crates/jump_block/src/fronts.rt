@@ -4,24 +4,26 @@ ghost use Rattle.volume_meaning.specs.declared.blocks.TheConstants.{BLOCK_CELLS,
 ghost use Rattle.jump_block.specs.Fronts.{FindsInFront};
 ghost use Rattle.jump_block.specs.Known.{IsBelow, IsGreatest, IsKnown, ReadsOn};
 
+use crate::row_fronts::read_rows;
 use crate::{Front, KnownFront, entry};
 use cell_types::{Fault, breach};
 use tamper_rules::BLOCK_OUT_OF_ORDER;
 use volume_meaning::ENTRY_PLACES;
 use worm_device::View;
 
-/// The first entry of a block with a key at or past x, or how its front ends that has none. It reads from place 0 on,
-/// up to the place that it answers, 129 reads at most. An entry before that place that is no posting or does not rise
-/// is evidence.
+/// The first entry of a block with a key at or past x, or how its front ends that has none. It reads from place 0 on, by
+/// rows, and from the place that it answers on once more, 257 reads at most. An entry before that place that is no posting
+/// or does not rise is evidence.
 pub fn first_at_least<V: View>(view: &mut V, block: u32, x: u32) -> Result<Front, Fault>
     requires inside { block + BLOCK_CELLS ≤ (V.seen view.old).cells }
-    ensures { FindsInFront x block 129 (V.seen view.old) (V.seen view.new) result }
+    ensures { FindsInFront x block 257 (V.seen view.old) (V.seen view.new) result }
 {
     let mut front = KnownFront {
         block,
         count: 0,
         greatest: 0,
     };
+    read_rows(view, &mut front, x)?;
     read_on(view, &mut front, x)
 }
 

@@ -33,6 +33,7 @@ mod kept_fronts;
 mod key_spans;
 mod known_front;
 mod pointers;
+mod row_fronts;
 mod spans;
 
 pub use consulting::first_from_known;

@@ -5,7 +5,7 @@ ghost use Rattle.kept_documents.specs.Trails.{AsksTrail, AsksBlock, wanted_posti
 
 use crate::Wanted;
 use crate::refuted::refuted;
-use jump_block::{Front, first_at_least, pointer, span};
+use jump_block::{Front, KnownFront, first_from_known, pointer, span};
 use worm_device::{Failed, View};
 
 /// Whether the posting has a trail from a list's first block, through blocks from the pool's start on.
@@ -43,7 +43,13 @@ fn leads_to<V: View>(
     requires level { level ≤ 8 }
     ensures { AsksBlock pool block (wanted_posting wanted) low bound (V.seen view.old) (V.seen view.new) result }
 {
-    let front = match first_at_least(view, block, wanted.key) {
+    // Place by place: whoever lists what is read lists no place behind the posting.
+    let mut known = KnownFront {
+        block,
+        count: 0,
+        greatest: 0,
+    };
+    let front = match first_from_known(view, &mut known, wanted.key) {
         Ok(front) => front,
         Err(fault) => return refuted(fault),
     };

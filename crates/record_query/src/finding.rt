@@ -11,6 +11,7 @@ use crate::common::common_slots;
 use crate::found::Match;
 use crate::matching::match_in;
 use cell_types::{Refusal, Volume};
+use document_store::ROW_BYTES;
 use posting_list::{SoughtTerms, kept_are_owed};
 use recovery_engine::settle;
 use std::alloc::{AllocError, Global};
@@ -63,8 +64,10 @@ fn find_among<D: Device>(
         → AmongEnds volume.now.geometry slots.now terms (D.state device.old) (D.state device.new) result }
 {
     let mut matches = Vec::new(alloc);
+    // One row for all documents, which is cleared once.
+    let mut row = [0; ROW_BYTES];
     for place in 0..slots.len() {
-        let found = match_on_device(alloc, device, volume, slots[place], matcher)?;
+        let found = match_on_device(alloc, device, volume, slots[place], matcher, &mut row)?;
         keep(&mut matches, found)?;
     }
     Ok(matches)
@@ -77,6 +80,7 @@ fn match_on_device<D: Device>(
     volume: &Volume,
     slot: u32,
     matcher: &mut Matcher,
+    row: &mut [u8; ROW_BYTES],
 ) -> Result<Option<Match>, Refusal>
     requires size { volume.now.geometry.cells ≤ (D.state device.old).cells }
     ensures viewed { Viewed (seen_directly (D.state device.old) 0) (seen_directly (D.state device.new) 0) }
@@ -90,7 +94,7 @@ fn match_on_device<D: Device>(
         // The lists answer slots of the volume alone, which their contract does not say.
         return Ok(None);
     }
-    match_in(alloc, &mut Direct::new(device), volume, slot, matcher)
+    match_in(alloc, &mut Direct::new(device), volume, slot, matcher, row)
 }
 
 /// Adds what was found.

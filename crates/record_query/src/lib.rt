@@ -1,36 +1,37 @@
-//! The two queries: documents by their words, and a document by its identifier.
+//! The two queries: `find` finds documents by their words, and a look-up finds one by its identifier.
 //!
-//! Each settles the volume first, and then goes by its index, not along its slots. On a volume with three documents and a
-//! slot that was given up:
+//! Each settles the volume first. Then it follows the index, and does not go through all slots. Take a
+//! volume with three documents and a slot that was given up:
 //!
 //!     slot         0              1            2           3
 //!     document     a              -            b           c
 //!     body         hello world    given up     hello       bye
 //!
-//!     find hello              the word's list has slots 0 and 2: two matches, `a` with 11 bytes and `b` with 5
-//!     find hello world        the two words' lists have slot 0 in common: one match
+//!     find hello              the list of `hello` has slots 0 and 2: two matches, `a` with 11 bytes and `b` with 5
+//!     find hello world        the two lists have only slot 0 in common: one match
 //!     look up c               the path of `c` leads to slot 3: the bytes `bye`; slot 3, 3 bytes
-//!     look up d               the path of `d` ends at a blank place: absent
+//!     look up d               the path of `d` ends at a blank cell: absent
 //!
-//! A find reads a document only where the lists of all the words have its slot, and then each of its cells once. It passes
-//! none that was kept when it began, whatever somebody else writes in the meantime, or names a cell as evidence of
-//! tampering. What it answers it has read: a posting alone makes no match. What a word is, the version of the volume says;
-//! where words are of characters, a find takes memory for one body at a time. A document that no word leads to is not read,
-//! so that one is broken there is left to an audit.
+//! A slot that the lists of all words have in common is a **candidate**. A find reads each candidate whole,
+//! and returns it only if the words are there: a posting alone is no match. It returns each match that was
+//! kept when it began, or names a cell as evidence of tampering, whatever somebody else writes meanwhile.
+//! If no word leads to a broken document, a find does not read it; an audit does. The volume's version says
+//! what a word is. If words are made of characters, a find takes memory for one body at a time.
 //!
-//! What a find reads is bounded where the volume was settled and nobody else writes, whatever it answers. Let Near be the
-//! least number, over its T words, of documents that have a posting in that word's list. It makes at most
-//! `256 + 49,152 * T * (Near + 1)` reads, and four for each cell of its candidates: the documents that have the tag of each
-//! word. In the picture, where `hello` and `world` have lists of their own, `find hello world` has Near 1 and the candidate
-//! `a` of one cell: 196,868 reads at most, however many documents there are.
+//! A settled volume bounds the reads of a find, if nobody else writes. Say that it asks for T words, and
+//! that Near is the smallest number of documents with a posting in the list of one of them. Then it makes
+//! at most `256 + 49,152 * T * (Near + 1)` reads, and four more for each cell of a candidate. Suppose that
+//! `hello` and `world` above have lists of their own. Then `find hello world` has T 2, Near 1 and one
+//! candidate of one cell: at most 196,868 reads, however many documents there are.
 //!
-//! A look-up goes along the identifier's path alone. It checks its document whole before the first byte goes out, and takes
-//! no memory. On a settled volume it makes at most 1,024 reads, and four for each cell of the documents that buckets with
-//! the identifier's fingerprint name on that path.
+//! A look-up follows the path of the identifier alone. It checks the whole document before its first byte
+//! goes out, and takes no memory. On a settled volume it makes at most 1,024 reads, and four more for each
+//! cell of a document whose bucket on that path has the fingerprint of the identifier.
 //!
-//! Stands on `posting_list` (the slots that words have in common), `identifier_lookup` (the path of an identifier),
-//! `document_store` (reading a document) and `word_reader` (words). Begin with `finding.rt` and `looking_up.rt`;
-//! specs/Finding.antt and specs/LookingUp.antt say how each may end, and why.
+//! Stands on `posting_list`, which finds the slots that words have in common; `identifier_lookup`, which
+//! follows the path; `document_store`, which reads documents; and `word_reader`, which finds words. Begin
+//! with `finding.rt` and `looking_up.rt`. `specs/Finding.antt` and `specs/LookingUp.antt` say how each may
+//! end, and why.
 #![tactic(auto)]
 
 mod common;

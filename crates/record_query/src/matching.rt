@@ -51,13 +51,15 @@ impl From<NoMemory> for SeekFault {
     }
 }
 
-/// The match in a slot, if it is done and its document has each term of the matcher, by the volume's rule of words.
+/// The match in a slot, if it is done and its document has each term of the matcher, by the volume's rule of words. Its
+/// bytes go through the row.
 pub(crate) fn match_in<V: View>(
     alloc: Global,
     view: &mut V,
     volume: &Volume,
     slot: u32,
     matcher: &mut Matcher,
+    row: &mut [u8; ROW_BYTES],
 ) -> Result<Option<Match>, Refusal>
     requires slot { slot < volume.now.geometry.slots }
     requires size { volume.now.geometry.cells ≤ (V.seen view.old).cells }
@@ -70,7 +72,7 @@ pub(crate) fn match_in<V: View>(
     let Some(part) = slot_part(view, volume, slot)? else {
         return Ok(None);
     };
-    match_part(alloc, view, &volume.geometry, &part, matcher)
+    match_part(alloc, view, &volume.geometry, &part, matcher, row)
 }
 
 /// The match in the part of a slot's document, if it has each term of the matcher.
@@ -80,6 +82,7 @@ fn match_part<V: View>(
     geometry: &Geometry,
     part: &Part,
     matcher: &mut Matcher,
+    row: &mut [u8; ROW_BYTES],
 ) -> Result<Option<Match>, Refusal>
     requires slot { part.now.slot < geometry.now.slots }
     requires size { geometry.now.cells ≤ (V.seen view.old).cells }
@@ -93,7 +96,7 @@ fn match_part<V: View>(
     ensures ends { (terms : List (List ℕ)) → IsMatcherOf (rule_of geometry.now.version) terms matcher.old
         → SlotEnds geometry.now part.now.slot terms (V.seen view.old) (V.seen view.new) result }
 {
-    let found = match seek(view, part.start, part.bytes, matcher) {
+    let found = match seek(view, part.start, part.bytes, matcher, row) {
         Ok(found) => found,
         Err(SeekFault::Broken) => return Err(Refusal::from(name_commit(geometry, part))),
         Err(SeekFault::ReadFault) => return Err(Refusal::DeviceFault),
@@ -116,6 +119,7 @@ fn seek<V: View>(
     start: u32,
     bytes: u32,
     matcher: &mut Matcher,
+    row: &mut [u8; ROW_BYTES],
 ) -> Result<Option<Head>, SeekFault>
     requires { start + cells_for bytes ≤ (V.seen view.old).cells }
     ensures viewed { Viewed (V.seen view.old) (V.seen view.new) }
@@ -126,7 +130,7 @@ fn seek<V: View>(
     forget_document(matcher);
     let mut position = Position::new(start, bytes);
     let head = read_head(view, start, bytes, &mut position)?;
-    let matched = match_body(view, start, bytes, &mut position, &head, matcher)?;
+    let matched = match_body(view, start, bytes, &mut position, &head, matcher, row)?;
     if matched {
         return Ok(Some(head));
     }
@@ -149,6 +153,7 @@ fn match_body<V: View>(
     position: &mut Position,
     head: &Head,
     matcher: &mut Matcher,
+    row: &mut [u8; ROW_BYTES],
 ) -> Result<bool, SeekFault>
     requires head { IsHead (V.seen view.old) start bytes position.old head.now }
     requires inside { start + cells_for bytes ≤ (V.seen view.old).cells }
@@ -162,7 +167,7 @@ fn match_body<V: View>(
 {
     let mut count = 0;
     while count < head.body_length {
-        count += push_next(view, position, matcher)?;
+        count += push_next(view, position, matcher, row)?;
     }
     let matched = matcher.finish()?;
     Ok(matched)
@@ -173,6 +178,7 @@ fn push_next<V: View>(
     view: &mut V,
     position: &mut Position,
     matcher: &mut Matcher,
+    row: &mut [u8; ROW_BYTES],
 ) -> Result<u32, SeekFault>
     requires is { IsPosition position.old }
     requires inside { position.old.start + cells_for position.old.bytes ≤ (V.seen view.old).cells }
@@ -185,8 +191,7 @@ fn push_next<V: View>(
     ensures ends { PushNextEnds (V.seen view.old) (V.seen view.new) position.old position.new matcher.old matcher.new
         result }
 {
-    let mut row = [0; ROW_BYTES];
-    let count = next_row(view, position, &mut row)?;
+    let count = next_row(view, position, row)?;
     matcher.push_all(&row[..count])?;
     Ok(count as u32)
 }

@@ -1,24 +1,25 @@
-//! The fifteen rules of a volume, and what it means that a volume is settled or sound.
+//! The fifteen rules that show tampering, and when a volume is settled or sound.
 //!
-//! Each rule is said as what holds at a written cell where it is kept (`IsMet`); it is **broken** at a written cell of
-//! its place where that does not hold (`IsBroken`), and that cell is the evidence of tampering. On the volume of 8 slots
-//! and 2 lists on 1,000 cells that holds one document in slot 0, whose cells end at 584:
+//! Each rule says what must hold at written cells of one kind (`IsMet`). If it does not hold at such a
+//! cell, the rule is **broken** there (`IsBroken`), and the cell is evidence of tampering. Take the volume
+//! of 8 slots and 2 lists on 1,000 cells with one document, in slot 0. Its cells end before 584, which is
+//! the edge:
 //!
-//!     somebody writes              which is              breaks       since
-//!     cell 12, a reserve cell      slot 2's              rule 1       slot 1, before it, has not ended
+//!     somebody writes              which is              breaks       because
+//!     cell 12, a reserve cell      slot 2's              rule 1       slot 1 has not ended
 //!     cell 9, an abandon cell      slot 1's outcome      rule 2       slot 1 reserves nothing
-//!     cell 700, anything           a pool cell           rule 7       it lies past the edge, 584
-//!     cell 284, a posting          place 248 of list 0   rules 7, 8   no journal names it; nothing stands behind the pointers
+//!     cell 700, anything           a pool cell           rule 7       it lies past the edge
+//!     cell 284, a posting          place 248 of list 0   rules 7, 8   no journal names it; the pointers end before it
 //!
-//! A volume is **settled** where no rule is broken and each slot below the horizon is abandoned or done. It is **sound**
-//! where settling makes a settled image of it (`After`): a crash leaves the last slot reserved, which is then given up,
-//! or committed, and then its journal is carried out.
+//! A volume is **settled** if no rule is broken and each slot below the horizon is abandoned or done. A
+//! crash may leave the last slot unfinished. Settling then gives it up if it is reserved, and carries out
+//! its journal if it is committed. A volume is **sound** if settling makes a settled image of it (`After`).
 //!
-//! A settled image has one horizon and one edge, keeps each of its documents, and has no broken rule; what settling makes
-//! is one image; and settling that is cut short anywhere is made up for by settling again.
+//! The laws say four things. A settled image has one horizon and one edge. Each of its documents is kept.
+//! Settling has only one result. If it is cut short anywhere, settling again leads to that same result.
 //!
-//! There is no code beside the laws and the rules' numbers. The definitions are in specs/: `Journals`, `Rules`,
-//! `Settling`, in this order; `SettlingLaws` has the laws' sentences.
+//! Apart from the laws, the only code is the numbers of the rules. Stands on `volume_meaning`. Begin with
+//! `specs/Journals.antt`, then `Rules` and `Settling`. `SettlingLaws` has the laws as sentences.
 #![tactic(auto)]
 
 mod laws;

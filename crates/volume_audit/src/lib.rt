@@ -1,10 +1,12 @@
-//! The audit of a volume: whether each rule is kept at each written cell, and how many slots and cells there are.
+//! The audit of a volume: it checks the fifteen rules at every written cell, and counts slots and cells.
 //!
-//! An auditor has the device alone. The audit settles the volume, reads each cell once in rising order and keeps it in
-//! memory, and then checks the fifteen rules over what is kept, one after another. The first that is broken is named, at
-//! the least cell where it is; where each is kept the volume is **sound**, and the answer says how many of its slots are
-//! done and abandoned, and how many cells of the device are written:
+//! An auditor needs nothing but the device. The audit settles the volume, reads each cell once, in rising
+//! order, and keeps the written ones in memory. Then it checks one rule after another there. It names the
+//! first rule that is broken, at the smallest cell that breaks it. If none is broken, the volume is
+//! **sound**, and the audit answers how many slots are done, how many are abandoned, and how many cells are
+//! written.
 //!
+//!     rules         are about                  checked by
 //!     1 to 3        the log                    log_audit
 //!     4, 5, 6       documents and journals     slot_audit
 //!     7             cells astray               slot_audit
@@ -16,16 +18,18 @@
 //!     14            paths of documents         tree_audit
 //!     15            blocks of slots            slot_audit
 //!
-//! Of the volume of 8 slots and 2 lists on 1,000 cells that holds the document `a` it answers 1 done, 0 abandoned and 11
-//! written; where somebody else has written an abandon cell into cell 9, rule 2 is broken there, and this is named.
+//! Take the volume of 8 slots and 2 lists on 1,000 cells with the document `a`. The audit answers 1 done, 0
+//! abandoned and 11 written. If somebody then writes an abandon cell into cell 9, it names rule 2 there.
 //!
-//! It takes 20 bytes of memory a written cell, 4 a page of 256 cells and 20 a slot all along, and besides 16 a posting
-//! while rule 9 is checked, with what the words of one document take. A posting is two written cells, its own and its
-//! copy in a journal, and a slot is two at least, where it was given up: so these are 28 bytes a written cell where
-//! postings are many, and 30 where slots were given up. Room is taken at once where it is known.
+//! It takes 20 bytes of memory for each written cell, 20 for each slot, and 4 for each page of 256 cells.
+//! While it checks rule 9 it takes 16 more for each posting, and room for the words of one document. A
+//! posting has two written cells, itself and its copy in a journal: with many postings that makes 28 bytes
+//! for each written cell. A slot that was given up has two as well: with many of them it makes 30. Room is
+//! taken at once if its size is known.
 //!
-//! Stands on the crates that check the rules, and on `recovery_engine`, which settles. Begin with `auditing.rt`, then
-//! `judging.rt`; `specs/Audits.antt` says what an audit answers, and why.
+//! Stands on the crates in the right column, which check the rules, and on `recovery_engine`, which
+//! settles. Begin with `auditing.rt`, then `judging.rt`. `specs/Audits.antt` says what an audit answers,
+//! and why.
 #![tactic(auto)]
 
 mod auditing;

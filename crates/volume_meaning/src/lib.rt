@@ -1,7 +1,9 @@
-//! What a volume is, in which state a slot is, when a document stands, which words it has, and where an index leads.
+//! What the cells of a volume mean: its layout, the state of a slot, its documents and their words, and its
+//! index.
 //!
-//! All is said of images alone, so that it holds of a device whoever wrote it. In the volume of 8 slots and 2 lists on
-//! 1,000 cells that holds the document `a` with the body `hello world`:
+//! Everything is said of an image, the cells that are written at one moment. It does not matter who wrote
+//! them. Take the volume of 8 slots and 2 lists on 1,000 cells, with the document `a`, whose body is `hello
+//! world`:
 //!
 //!     cell 0    volume             the layout: the pool begins at cell 580
 //!     cell 4    reserve 580, 4     slot 0 reserves cells 580 to 583
@@ -9,24 +11,28 @@
 //!     cell 6    done 0             slot 0 is done
 //!     cell 580  content            01 61 `hello world`: a length, the identifier, the body
 //!
-//! so `Stands 1000 image 0 "a" "hello world"`, and the words of the body are `hello` and `world`. Slot 1 is unused: 1 is
-//! a **horizon**, and the end of slot 0's cells, 584, an **edge**. On an image that somebody else has written there may
-//! be several.
+//! So `Stands 1000 image 0 "a" "hello world"` holds, and the words of the body are `hello` and `world`.
+//! Slot 1 is the first that is free: 1 is the **horizon**. The cells of slot 0 end before 584, which is the
+//! **edge**. If somebody else has written, an image may have several horizons and edges.
 //!
-//! The version of a volume decides two things here. Its **rule of words**: by the first version words are made of bytes,
-//! by later ones of characters, in their case folding. And whether its documents are **stamped**: on a volume of the
-//! third version slot 0 states a document only where cell 7, its spare cell, holds a stamp.
+//! The version of a volume decides two things. The first is its **rule of words**: in version 1 words are
+//! made of bytes, and only A to Z have small letters; in later versions they are made of characters of any
+//! script. The second is whether documents are **stamped**: in version 3 slot 0 has a document only if cell
+//! 7, its spare cell, holds a stamp.
 //!
-//! A state is said of two images: what it needs written stands in the later one, and what it needs blank was blank in
-//! the earlier one. So a call that reads three cells, while somebody else writes, can say what it saw. What is said of
-//! written cells alone goes on in every image that extends the first: that is what the laws here say.
+//! A call that reads three cells reads them one after another, and somebody else may write meanwhile. So a
+//! state is said of two images. What must be written is written in the later one; what must be blank was
+//! blank in the earlier one. A fact about written cells alone still holds after more cells are written: the
+//! laws here say so.
 //!
-//! An index leads to a document by a **trail** of each of its postings and by the **hash trail** of its slot; a document
-//! to which all of them lead is **kept**, in every image that extends this one. `path_laws.rt` tells of them, with examples.
+//! A **trail** leads through the index to a posting of a document, and a **hash trail** to its bucket,
+//! which names its slot. A document that stands is **kept** if it has a trail for each posting and a hash
+//! trail. It then stays kept, whatever is written later. `path_laws.rt` explains trails, with examples.
 //!
-//! There is no code beside the laws, `rule_of` and a few numbers. The definitions are in specs/: of what stands `Volumes`,
-//! `Slots`, `Documents` and `Words`, in this order, and `WordValues`, which has the words of a few bodies; of where an index
-//! leads `Blocks`, `Postings`, `HashPaths`, `Nodes`, `Keeping` and `Nearness`, in this order.
+//! Apart from the laws, the only code is `rule_of` and a few numbers. Stands on `cell_types`, and on
+//! libraries for SHA-256 and letters. Begin with `specs/Volumes.antt`, `Slots`, `Documents` and `Words`, in
+//! this order; `WordValues` has examples of words. For the index go on with `Blocks`, `Postings`,
+//! `HashPaths`, `Nodes`, `Keeping` and `Nearness`.
 #![tactic(auto)]
 
 mod blocks;

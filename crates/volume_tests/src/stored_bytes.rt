@@ -190,7 +190,7 @@ fn a_reader_ends_at_a_failed_read(rt: HostRuntime) -> Result<(), Fail> {
     Ok(())
 }
 
-/// A row has sixteen cells at most, and so 240 bytes.
+/// A row has 256 cells at most, and so each of these parts is one.
 #[test]
 fn parts_are_read_by_rows(rt: HostRuntime) -> Result<(), Fail> {
     for (bytes, want) in [
@@ -198,8 +198,8 @@ fn parts_are_read_by_rows(rt: HostRuntime) -> Result<(), Fail> {
         (225, &[225]),
         (226, &[226]),
         (240, &[240]),
-        (241, &[240, 1]),
-        (255, &[240, 15]),
+        (241, &[241]),
+        (255, &[255]),
     ] {
         let stored = bytes_of(rt.alloc(), bytes)?;
         let cells = content_cells(rt.alloc(), &stored)?;

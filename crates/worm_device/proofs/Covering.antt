@@ -1,13 +1,15 @@
 -- What an overlay shows of the view below, and what it shows after one cell more was planned.
-use Rattle.std.proofs.Common.{◌≡◌, ◌∷◌, ◌<◌, ◌≤◌, ⊎_elim, ℕ, Bool, true, false, List, Option, Some, None, Result, Ok, Err, refl, ap, sym, subst, arith, ◌∙◌, min}
+use Rattle.std.proofs.Common.{◌≡◌, ◌∷◌, ◌<◌, ◌≤◌, ◌+◌, length, slice_get, ⊎_elim, ℕ, Bool, true, false, List, Option, Some, None, Result, Ok, Err, refl, ap, sym, subst, arith, ◌∙◌, min}
 use Rattle.std.specs.Prelude.{nat_lt, if◌then◌else◌, MatchResult}
 use Rattle.std.proofs.lemmas.Bool.{cases_lt, lt-ltb, le-ltb}
-use Rattle.std.proofs.lemmas.Option.{none-some}
+use Rattle.std.proofs.lemmas.Option.{none-some, slice_get_within}
 use Rattle.std.specs.Ordering.{nat_cmp}
 use Rattle.std.specs.BTreeMap.{BTreeMap, get}
 use Rattle.cell_types.specs.Image.{Image, Extends}
 use Rattle.worm_device.specs.Overlaying.{asked_is_below, unasked_is_blank, planned_is_shown}
 use Rattle.worm_device.specs.Overlays.{over, planned_over, seen_over}
+use Rattle.worm_device.specs.Owned.{AreUnplanned}
+use Rattle.worm_device.specs.ReadRows.{AreFoundBetween, IsFoundBetween, ViewReadsRow}
 use Rattle.worm_device.specs.Views.{ViewState, IsView, Viewed, ViewReads}
 use Rattle.worm_device.specs.declared.device.Failed.{Failed}
 use Rattle.worm_device.specs.declared.owner.Owner.{Owner}
@@ -115,3 +117,38 @@ module _ (planned : BTreeMap ℕ (List ℕ)) (owners : BTreeMap ℕ Owner) (name
     cause = refl;
     count = omega arith;
   }
+
+  found_below : (s t : ViewState) (cell : ℕ) (held : Option (List ℕ)) → get nat_cmp planned cell ≡ None
+      → cell < min fresh s.cells → cell < min fresh t.cells → IsFoundBetween s.image t.image cell held
+      → IsFoundBetween (planned_over planned (min fresh s.cells) s.image) (planned_over planned (min fresh t.cells) t.image) cell held
+  found_below s t cell None free before after h =
+      asked_is_below (get nat_cmp planned cell) (s.image cell) (nat_lt cell (min fresh s.cells)) free
+      (lt-ltb cell (min fresh s.cells) before) ∙ h
+  found_below s t cell (Some value) free before after h =
+      asked_is_below (get nat_cmp planned cell) (t.image cell) (nat_lt cell (min fresh t.cells)) free
+      (lt-ltb cell (min fresh t.cells) after) ∙ h
+
+  -- neighbouring cells none of which is planned, and that are asked for below
+  pub reads_row_below : (s t : ViewState) (room found : List (Option (List ℕ))) (result : Result Unit Failed)
+      → AreUnplanned planned at (at + length room) → at + length room ≤ min fresh s.cells
+      → ViewReadsRow at room found s t result
+      → ViewReadsRow at room found (seen_over s name planned owners fresh) (seen_over t name planned owners fresh) result
+  reads_row_below s t room found result free asked read = record {
+    viewed = viewed_over s t read.viewed;
+    size = read.size;
+    answer = λ tells. below result (read.answer tells);
+    cause = read.cause;
+    count = read.count;
+  } where
+    more : at + length room ≤ min fresh t.cells
+    more = subst (λ (n : ℕ). at + length room ≤ min fresh n) (sym read.viewed.cells) asked
+
+    below : (result : Result Unit Failed)
+        → MatchResult result (λ _. AreFoundBetween (length found) at found s.image t.image) (λ _. Unit {0})
+        → MatchResult result (λ _. AreFoundBetween (length found) at found (planned_over planned (min fresh s.cells) s.image)
+        (planned_over planned (min fresh t.cells) t.image)) (λ _. Unit {0})
+    below (Ok done) each = λ place held less there.
+        let inside : place < length room = omega (arith, less, read.size) in
+        found_below s t (at + place) held (free.each (at + place) (omega arith) (omega (arith, inside)))
+        (omega (arith, inside, asked)) (omega (arith, inside, more)) (each place held less there)
+    below (Err failed) each = tt

@@ -1,9 +1,11 @@
+pub mod CellBytes
 pub mod Compared
 pub mod Counting
 pub mod Covering
 pub mod Elapsing
 pub mod Images
 pub mod Owning
+pub mod ReadBytes
 pub mod ReadRows
 pub mod Resting
 pub mod Rows

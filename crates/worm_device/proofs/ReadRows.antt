@@ -40,7 +40,7 @@ none_some : (a : List ℕ) → Some a ≡ None → ⊥
 none_some a e = cc
 
 -- what is blank in a later image was blank in an earlier one
-blank_before : (a b : Image) (cell : ℕ) → Extends a b → b cell ≡ None → a cell ≡ None
+pub blank_before : (a b : Image) (cell : ℕ) → Extends a b → b cell ≡ None → a cell ≡ None
 blank_before a b cell grows blank = by_found (a cell ≡ None) (a cell) (λ none. none)
     (λ v stood. absurd (none_some v (sym (grows.keeps cell v stood) ∙ blank)))
 

@@ -6,6 +6,7 @@ pub mod Looks
 pub mod Overlaying
 pub mod Overlays
 pub mod Owned
+pub mod ReadBytes
 pub mod ReadRows
 pub mod Rows
 pub mod State

@@ -1,5 +1,5 @@
 -- What an overlay keeps of its maps.
-use Rattle.std.specs.Prelude.{◌≡◌, ◌<◌, ℕ, List, Some, None}
+use Rattle.std.specs.Prelude.{◌≡◌, ◌<◌, ◌≤◌, ℕ, List, Some, None}
 use Rattle.std.specs.Ordering.{nat_cmp}
 use Rattle.std.specs.BTreeMap.{BTreeMap, get}
 use Rattle.cell_types.specs.Bytes.{IsCell}
@@ -17,3 +17,7 @@ pub record AreAsBefore (planned : BTreeMap ℕ (List ℕ)) (owners : BTreeMap �
     (new_owners : BTreeMap ℕ Owner) : Type 0 where
   pub cells : (cell : ℕ) → get nat_cmp new_planned cell ≡ get nat_cmp planned cell
   pub names : (cell : ℕ) → get nat_cmp new_owners cell ≡ get nat_cmp owners cell
+
+-- no cell is planned from this one up to, but not with, another
+pub record AreUnplanned (planned : BTreeMap ℕ (List ℕ)) (from to : ℕ) : Type 0 where
+  pub each : (cell : ℕ) → from ≤ cell → cell < to → get nat_cmp planned cell ≡ None

@@ -1,12 +1,14 @@
 //! A device: cells that are written once, a sync, and faults.
-ghost use Rattle.std.specs.Prelude.{◌≡◌, ◌<◌, ◌≤◌, ◌+◌, length};
+ghost use Rattle.std.specs.Prelude.{◌≡◌, ◌<◌, ◌≤◌, ◌+◌, ◌/◌, ◌%◌, length};
 ghost use Rattle.cell_types.specs.declared.refusal.Fault.TheVariants as faults;
 ghost use Rattle.cell_types.specs.declared.refusal.Refusal.TheVariants as refusals;
 ghost use Rattle.worm_device.specs.Calls.{Reads, Writes, Syncs};
+ghost use Rattle.worm_device.specs.ReadBytes.{ReadsBytes};
 ghost use Rattle.worm_device.specs.ReadRows.{ReadsRow};
 ghost use Rattle.worm_device.specs.Rows.{WritesRow};
 ghost use Rattle.worm_device.specs.State.{DeviceState, IsDevice};
 
+use crate::row_bytes::put_found;
 use cell_types::{Cell, Fault, Refusal};
 
 /// A call failed. The device, view, source or sink that it was asked of has counted a fault.
@@ -72,6 +74,20 @@ pub trait Device {
     {
         for place in 0..cells.len() {
             cells[place] = self.read(at + place as u32)?;
+        }
+        Ok(())
+    }
+
+    /// The bytes of neighbouring cells, sixteen of each, and zeros of a blank one; of as many cells as there is room for.
+    /// It is the same as a read of each, in rising order; a device may do it in fewer steps.
+    fn read_bytes(&mut self, at: u32, bytes: &mut [u8]) -> Result<(), Failed>
+        requires whole { length bytes.old % 16 ≡ 0 }
+        requires inside { at + length bytes.old / 16 ≤ (state self.old).cells }
+        ensures { ReadsBytes at bytes.old bytes.new (state self.old) (state self.new) result }
+    {
+        for place in 0..bytes.len() / 16 {
+            let found = self.read(at + place as u32)?;
+            put_found(found, place, bytes);
         }
         Ok(())
     }

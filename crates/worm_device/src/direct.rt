@@ -47,4 +47,8 @@ impl<'a, D: Device> View for Direct<'a, D> {
     fn read_row(&mut self, at: u32, cells: &mut [Option<Cell>]) -> Result<(), Failed> {
         self.device.read_row(at, cells)
     }
+
+    fn read_bytes(&mut self, at: u32, bytes: &mut [u8]) -> Result<(), Failed> {
+        self.device.read_bytes(at, bytes)
+    }
 }

@@ -1,8 +1,10 @@
-//! Devices whose cells are written once, and views of them.
+//! Storage whose cells are written once: devices, which read, write and sync cells, and views, which only
+//! read.
 //!
-//! A device has an **image**, what stands in its cells, and a **sure** part of it, which no crash takes. A write adds
-//! a cell to the image, a sync makes all of the image sure, and somebody else may write blank cells before any call.
-//! Each call moves the device from one **moment** to the same or a later one, and its past stays:
+//! The **image** of a device is what its cells hold now. The **sure** image is the part of it that no crash
+//! can take. A write adds one cell to the image. A sync makes all of it sure. Somebody else may write blank
+//! cells before any call. A **moment** is a number that never falls, and contracts know both images at each
+//! earlier one:
 //!
 //!     moment 0   cell 4 written, nothing sure     a crash leaves cell 4 or no cell
 //!       sync
@@ -10,26 +12,28 @@
 //!       write 580
 //!     moment 2   cells 4 and 580, cell 4 sure     a crash leaves cell 4, with cell 580 or without
 //!
-//! What a crash could have left **since** moment 0 is any of these, in the middle of calls too (`LeftSince`).
+//! `LeftSince` says what a crash may have left at any time since a moment, even in the middle of a call.
+//! Since moment 0 that is everything in the right column.
 //!
-//! **`Called old new`** is what each call keeps, and so each row of calls, also where it fails: the device has the cells
-//! that it had, its image and its sure image extend the old ones, no count falls, what it keeps from the command's
-//! beginning on stays, and what else a crash could leave lies between the old sure image and the new image. A caller
-//! of several calls gets `Called` of all of them with no proof.
+//! **`Called old new`** says what every call keeps, even one that fails. The number of cells stays, and so
+//! does what the device noted when the command began. Both images extend the old ones. No count falls. A
+//! crash during the call leaves something between the old sure image and the new image. A function that
+//! makes several calls has `Called` for all of them, and no proof is needed.
 //!
-//! **`tells`**: a device in memory tells what stands in it, and contracts speak of that. A device over a file of the
-//! host can't, so its image, its sure image and its past say nothing, and each clause on content begins
-//! `IsTrue old.tells`. Counts and causes hold of both.
+//! **`tells`** says whether contracts may speak of what the cells hold. A device in memory tells. A device
+//! over a file of the operating system cannot, so each clause about content begins with `IsTrue old.tells`.
+//! Clauses about counts and causes hold for both.
 //!
-//! A **view** can only be read. It stands over a device, directly (`Direct`) or through a holder, which may show planned
-//! cells of its own over those below. `Viewed` is to views what `Called` is to devices. An **overlay** is such a holder:
-//! cells are planned in it one by one, each for somebody, and nothing is written below.
+//! A **view** reads a device, directly (`Direct`) or through something that shows planned cells over it.
+//! `Viewed` says what a row of reads keeps, as `Called` does for a device. An **overlay** is such a view.
+//! Cells are planned in it one by one, each with its owner, and nothing is written below:
 //!
 //!     below      804 .. 931 written, 962 blank, 1092 free
 //!     plan       1092, a posting, and 962, the pointer to it
-//!     shown      804 .. 931, 962 and 1092; from 1092 on nothing that is not planned
+//!     shown      804 .. 931, 962 and 1092; from 1092 on only planned cells
 //!
-//! Begin with `device.rt`; `specs/State.antt` says what a device is, and `specs/Calls.antt` what each call does.
+//! Stands on `cell_types`. Begin with `device.rt`. `specs/State.antt` says what a device is, and
+//! `specs/Calls.antt` what each call does.
 #![tactic(auto)]
 
 mod device;
@@ -40,6 +44,7 @@ mod overlay;
 mod owner;
 mod planned;
 mod planning;
+mod row_bytes;
 mod shown;
 mod view;
 

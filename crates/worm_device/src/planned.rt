@@ -1,8 +1,8 @@
 //! Cells that are planned, and for whom.
-ghost use Rattle.std.specs.Prelude.{◌≡◌, ◌<◌, ℕ, None, Some, OnOk, OnErr};
+ghost use Rattle.std.specs.Prelude.{◌≡◌, ◌<◌, ◌≤◌, ℕ, false, None, Some, OnOk, OnErr};
 ghost use Rattle.std.specs.Ordering.{nat_cmp};
 ghost use Rattle.std.specs.BTreeMap.{get, Updates};
-ghost use Rattle.worm_device.specs.Owned.{AreAsBefore};
+ghost use Rattle.worm_device.specs.Owned.{AreAsBefore, AreUnplanned};
 
 use crate::Owner;
 use crate::overlay::{OVERLAY_CELLS, PlannedCells};
@@ -53,6 +53,17 @@ impl PlannedCells {
         ensures { result ≡ get nat_cmp self.now.planned at }
     {
         self.planned.get(&at).copied()
+    }
+
+    /// Whether some cell is planned from this one up to, but not with, another.
+    pub(crate) fn plans_between(&self, from: u32, to: u32) -> bool
+        requires forward { from ≤ to }
+        ensures none { result ≡ false → AreUnplanned self.now.planned from to }
+    {
+        let Some(_first) = self.planned.range(from..to).next() else {
+            return false;
+        };
+        true
     }
 
     /// For whom a planned cell is, `None` exactly where the cell is not planned.

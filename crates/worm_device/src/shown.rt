@@ -24,4 +24,29 @@ impl<'a, V: View> View for Overlay<'a, V> {
         }
         Ok(None)
     }
+
+    fn read_row(&mut self, at: u32, cells: &mut [Option<Cell>]) -> Result<(), Failed> {
+        let end = at + cells.len() as u32;
+        if end <= self.fresh && end <= self.view.cells() && !self.own.plans_between(at, end) {
+            return self.view.read_row(at, cells);
+        }
+        self.read_each(at, cells)
+    }
+}
+
+impl<'a, V: View> Overlay<'a, V> {
+    ghost use Rattle.std.specs.Prelude.{◌≤◌, ◌+◌, length};
+    ghost use Rattle.worm_device.specs.Overlays.{of_overlay};
+    ghost use Rattle.worm_device.specs.ReadRows.{ViewReadsRow};
+
+    /// Reads neighbouring cells one after another.
+    fn read_each(&mut self, at: u32, cells: &mut [Option<Cell>]) -> Result<(), Failed>
+        requires { at + length cells.old ≤ (of_overlay V.seen self.old).cells }
+        ensures { ViewReadsRow at cells.old cells.new (of_overlay V.seen self.old) (of_overlay V.seen self.new) result }
+    {
+        for place in 0..cells.len() {
+            cells[place] = self.read(at + place as u32)?;
+        }
+        Ok(())
+    }
 }

@@ -1,9 +1,11 @@
 //! A view: what may be read of a device, or of what is planned for one.
-ghost use Rattle.std.specs.Prelude.{◌≡◌, ◌<◌, ◌≤◌, ◌+◌, length};
+ghost use Rattle.std.specs.Prelude.{◌≡◌, ◌<◌, ◌≤◌, ◌+◌, ◌/◌, ◌%◌, length};
+ghost use Rattle.worm_device.specs.ReadBytes.{ViewReadsBytes};
 ghost use Rattle.worm_device.specs.ReadRows.{ViewReadsRow};
 ghost use Rattle.worm_device.specs.Views.{ViewState, ViewReads, IsView};
 
 use crate::Failed;
+use crate::row_bytes::put_found;
 use cell_types::Cell;
 
 /// Cells that can be read.
@@ -32,6 +34,20 @@ pub trait View {
     {
         for place in 0..cells.len() {
             cells[place] = self.read(at + place as u32)?;
+        }
+        Ok(())
+    }
+
+    /// The bytes of neighbouring cells, sixteen of each, and zeros of a blank one; of as many cells as there is room for.
+    /// It is the same as a read of each, in rising order; a view may do it in fewer steps.
+    fn read_bytes(&mut self, at: u32, bytes: &mut [u8]) -> Result<(), Failed>
+        requires whole { length bytes.old % 16 ≡ 0 }
+        requires inside { at + length bytes.old / 16 ≤ (seen self.old).cells }
+        ensures { ViewReadsBytes at bytes.old bytes.new (seen self.old) (seen self.new) result }
+    {
+        for place in 0..bytes.len() / 16 {
+            let found = self.read(at + place as u32)?;
+            put_found(found, place, bytes);
         }
         Ok(())
     }

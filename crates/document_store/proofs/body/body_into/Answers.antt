@@ -41,6 +41,10 @@ returns-in_err-_checked-clause-ends g c =
     c.in_err-_checked.ensures.ends))
 
 -- the body was put
+pub returns-in-Ok-clause-viewed : goal.returns-in-Ok-clause-viewed
+returns-in-Ok-clause-viewed g c =
+    viewed_then c.done_part.ensures.viewed (viewed_then c.read_part.ensures.viewed c.put_document.ensures.viewed)
+
 pub returns-in-Ok-clause-reads : goal.returns-in-Ok-clause-reads
 returns-in-Ok-clause-reads g c =
     let layout = c.args.volume.now.geometry in
@@ -135,6 +139,10 @@ returns-in-Err-Broken-clause-ends g c =
     c.requires.slot fails))
 
 -- a read failed in the second pass
+pub returns-in-Err-ReadFault-clause-viewed : goal.returns-in-Err-ReadFault-clause-viewed
+returns-in-Err-ReadFault-clause-viewed g c =
+    viewed_then c.done_part.ensures.viewed (viewed_then c.read_part.ensures.viewed c.put_document.ensures.viewed)
+
 pub returns-in-Err-ReadFault-clause-reads : goal.returns-in-Err-ReadFault-clause-reads
 returns-in-Err-ReadFault-clause-reads g c =
     let layout = c.args.volume.now.geometry in
@@ -178,6 +186,10 @@ returns-in-Err-ReadFault-clause-ends g c =
     second_fails layout n old mid read new part h from to before second after found checked.0 checked.1 fails
 
 -- the sink failed
+pub returns-in-Err-SinkFault-clause-viewed : goal.returns-in-Err-SinkFault-clause-viewed
+returns-in-Err-SinkFault-clause-viewed g c =
+    viewed_then c.done_part.ensures.viewed (viewed_then c.read_part.ensures.viewed c.put_document.ensures.viewed)
+
 pub returns-in-Err-SinkFault-clause-reads : goal.returns-in-Err-SinkFault-clause-reads
 returns-in-Err-SinkFault-clause-reads g c =
     let layout = c.args.volume.now.geometry in

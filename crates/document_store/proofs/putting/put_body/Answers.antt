@@ -4,6 +4,7 @@ use Rattle.append_file.specs.declared.piece.ContentFault.{ContentFault}
 use Rattle.append_file.specs.declared.piece.ContentFault.TheVariants as contents
 use Rattle.document_store.specs.Putting.{FillEnds}
 use Rattle.document_store.specs.declared.putting.TheConstants.{PIECE_BYTES}
+use Rattle.worm_device.proofs.Resting.{viewed_then}
 use Rattle.document_store.proofs.PutSoFar.{buffer_size, piece_fails, piece_size, put_begins, put_fails, put_more, put_whole}
 use Rattle.document_store.proofs.putting.put_body.Goals as goal
 
@@ -115,3 +116,16 @@ returns-clause-ends g c =
     c.args.position.now c.loop-put.position c.args.head.now (g.K.Sink.state c.args.sink.now)
     (g.K.Sink.state c.loop-put.sink) c.loop-put.put c.requires.head c.loop-put.invariant.0
     (omega (arith, c.loop-put-test.false))
+
+-- each piece changes what the view has seen in turn
+pub returns-in-Err-Broken-clause-viewed : goal.returns-in-Err-Broken-clause-viewed
+returns-in-Err-Broken-clause-viewed g c = viewed_then c.loop-put.invariant.0.read.viewed c.fill.ensures.viewed
+
+pub returns-in-Err-ReadFault-clause-viewed : goal.returns-in-Err-ReadFault-clause-viewed
+returns-in-Err-ReadFault-clause-viewed g c = viewed_then c.loop-put.invariant.0.read.viewed c.fill.ensures.viewed
+
+pub returns-in_default-clause-viewed : goal.returns-in_default-clause-viewed
+returns-in_default-clause-viewed g c = viewed_then c.loop-put.invariant.0.read.viewed c.fill.ensures.viewed
+
+pub returns-clause-viewed : goal.returns-clause-viewed
+returns-clause-viewed g c = c.loop-put.invariant.0.read.viewed

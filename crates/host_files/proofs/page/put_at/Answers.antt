@@ -1,5 +1,5 @@
 use Rattle.std.proofs.Common.{arith, ◌≡◌, ◌∙◌, length, ap}
-use Rattle.host_files.proofs.PageCells.{put_holds, put_others}
+use Rattle.worm_device.proofs.CellBytes.{put_holds, put_others}
 use Rattle.host_files.proofs.page.put_at.Goals as goal
 
 -- what was copied is the cell, which has sixteen bytes

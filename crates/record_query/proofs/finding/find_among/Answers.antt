@@ -2,6 +2,7 @@
 use Rattle.std.proofs.Common.{◌≡◌, ◌+◌, ℕ, arith, length, subst}
 use Rattle.cell_types.proofs.Passed.{handed}
 use Rattle.record_query.specs.Among.{FoundAmong}
+use Rattle.worm_device.proofs.Resting.{viewed_then}
 use Rattle.record_query.proofs.FoundSoFar.{reads_all, reads_more, so_far_ended, so_far_more}
 use Rattle.record_query.proofs.finding.find_among.Goals as goal
 
@@ -56,3 +57,13 @@ pub returns-clause-reads : goal.returns-clause-reads
 returns-clause-reads g c =
     reads_all c.args.volume.now.geometry c.args.slots.now c.loop-place.place (g.D.Device.state c.args.device.now)
     (g.D.Device.state c.loop-place.device) c.loop-place.invariant.reads
+
+-- each slot changes what was seen in turn
+pub returns-in_err-found-clause-viewed : goal.returns-in_err-found-clause-viewed
+returns-in_err-found-clause-viewed g c = viewed_then c.loop-place.invariant.viewed c.in_err-found.ensures.viewed
+
+pub returns-in_err-keep-clause-viewed : goal.returns-in_err-keep-clause-viewed
+returns-in_err-keep-clause-viewed g c = viewed_then c.loop-place.invariant.viewed c.in_ok-found.ensures.viewed
+
+pub returns-clause-viewed : goal.returns-clause-viewed
+returns-clause-viewed g c = c.loop-place.invariant.viewed

@@ -30,6 +30,12 @@ returns-then-not-is_followed-clause-ends g c =
     c.out_of_order-then-not-is_followed.result c.out_of_order-then-not-is_followed.ensures
     (λ h. false_true (c.if-not-is_followed.ensures.1 h))
 
+pub returns-in_err-before-clause-viewed : goal.returns-in_err-before-clause-viewed
+returns-in_err-before-clause-viewed g c = viewed_then c.in_ok-state.ensures.viewed c.in_err-before.ensures.viewed
+
+pub returns-clause-viewed : goal.returns-clause-viewed
+returns-clause-viewed g c = viewed_then c.in_ok-state.ensures.viewed c.in_ok-before.ensures.viewed
+
 -- the slot follows the one before
 pub returns-clause-ends : goal.returns-clause-ends
 returns-clause-ends g c =

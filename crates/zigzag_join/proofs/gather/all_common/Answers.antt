@@ -3,6 +3,7 @@ use Rattle.std.proofs.Common.{◌+◌, ℕ, List, Option, Ok, subst, sym}
 use Rattle.zigzag_join.specs.Counts.{JoinCosts}
 use Rattle.zigzag_join.specs.Joins.{JoinEnds}
 use Rattle.zigzag_join.proofs.Gathering.{GatherSoFar, gather_costs, gather_more, gather_none, gathered, gathered_costs}
+use Rattle.zigzag_join.proofs.Joining.{keeps_then}
 use Rattle.zigzag_join.proofs.gather.all_common.Goals as goal
 
 pub loop-from-init : goal.loop-from-init
@@ -66,3 +67,16 @@ pub returns-clause-costs : goal.returns-clause-costs
 returns-clause-costs g c =
     gather_costs (g.Q.Lists.state c.args.lists.now) (g.Q.Lists.state c.loop-from.lists) c.loop-from.from
     c.loop-from.slots.items c.loop-from.invariant
+
+-- what every call keeps, over the calls before and the last one
+pub returns-in_default-clause-kept : goal.returns-in_default-clause-kept
+returns-in_default-clause-kept g c = keeps_then c.loop-from.invariant.kept c.in_ok-slot.ensures.kept
+
+pub returns-in_err-slot-clause-kept : goal.returns-in_err-slot-clause-kept
+returns-in_err-slot-clause-kept g c = keeps_then c.loop-from.invariant.kept c.in_err-slot.ensures.kept
+
+pub returns-in_err-keep-clause-kept : goal.returns-in_err-keep-clause-kept
+returns-in_err-keep-clause-kept g c = keeps_then c.loop-from.invariant.kept c.in_ok-slot.ensures.kept
+
+pub returns-clause-kept : goal.returns-clause-kept
+returns-clause-kept g c = c.loop-from.invariant.kept

@@ -4,7 +4,7 @@ use Rattle.cell_types.proofs.Passed.{handed}
 use Rattle.zigzag_join.specs.Joins.{AllHaveEnds, IsTurnAfter}
 use Rattle.zigzag_join.specs.Lists.{LandEnds}
 use Rattle.zigzag_join.specs.declared.lists.Landing.{Landing}
-use Rattle.zigzag_join.proofs.Joining.{all_vouch, asked_costs, end_costs, found_costs, none_left, none_vouch, not_all_yet, skip_more, smaller, so_far_none, turn_more, vouch_more}
+use Rattle.zigzag_join.proofs.Joining.{all_vouch, asked_costs, end_costs, found_costs, keeps_then, none_left, none_vouch, not_all_yet, skip_more, smaller, so_far_none, turn_more, vouch_more}
 use Rattle.zigzag_join.proofs.join.next_common.Goals as goal
 
 pub loop-slot-init : goal.loop-slot-init
@@ -168,3 +168,21 @@ pub returns-clause-costs : goal.returns-clause-costs
 returns-clause-costs g c =
     end_costs (g.Q.Lists.state c.args.lists.now) (g.Q.Lists.state c.loop-slot.lists)
     c.args.from c.loop-slot.which c.loop-slot.agreed c.loop-slot.slot c.loop-slot.invariant.so_far.so_far
+
+-- what every call keeps, over the calls before and the last ones
+pub returns-in_err-next-clause-kept : goal.returns-in_err-next-clause-kept
+returns-in_err-next-clause-kept g c = keeps_then c.loop-slot.invariant.so_far.so_far.kept c.in_err-next.ensures.kept
+
+pub returns-in_default-clause-kept : goal.returns-in_default-clause-kept
+returns-in_default-clause-kept g c = keeps_then c.loop-slot.invariant.so_far.so_far.kept c.in_ok-next.ensures.kept
+
+pub returns-in_err-all_agree-clause-kept : goal.returns-in_err-all_agree-clause-kept
+returns-in_err-all_agree-clause-kept g c =
+    keeps_then (keeps_then c.loop-slot.invariant.so_far.so_far.kept c.in_ok-next.ensures.kept) c.in_err-all_agree.ensures.kept
+
+pub returns-then-branch-clause-kept : goal.returns-then-branch-clause-kept
+returns-then-branch-clause-kept g c =
+    keeps_then (keeps_then c.loop-slot.invariant.so_far.so_far.kept c.in_ok-next.ensures.kept) c.in_ok-all_agree.ensures.kept
+
+pub returns-clause-kept : goal.returns-clause-kept
+returns-clause-kept g c = c.loop-slot.invariant.so_far.so_far.kept

@@ -1,10 +1,10 @@
--- The cells of a page after one of them was put.
+-- The bytes of the cells of a row, after those of one of them were put.
 use Rattle.std.specs.Prelude.{◌≡◌, ◌≢◌, ◌<◌, ◌≤◌, ◌+◌, ◌-◌, ◌*◌, ℕ, List, length, take, drop}
 use Rattle.std.proofs.Common.{◌∙◌, ap, sym, subst, arith, ⊎_elim}
 use Rattle.std.proofs.lemmas.Bool.{cases_lt}
 use Rattle.std.proofs.lemmas.List.{drop-take}
 use Rattle.std.proofs.lemmas.Slice.{between-put_mid, take-put_mid_below, drop-put_mid}
-use Rattle.host_files.specs.Cells.{cell_bytes}
+use Rattle.worm_device.specs.ReadBytes.{cell_bytes}
 use borrow.Rule.Slice.PartMut.{put_mid}
 
 -- the cell that was put stands in its place
