@@ -23,6 +23,7 @@ abbrev pub new_memory : ℕ → Memory
 new_memory cells = record {
   cells = cells;
   changes = [];
+  made_in = [];
   marks = [];
   steps = 0;
   calls = 0;

@@ -28,6 +28,7 @@ abbrev pub exercise_device : ℕ → Memory
 exercise_device n = record {
   cells = exercise_cells n;
   changes = [];
+  made_in = [];
   marks = [];
   steps = 0;
   calls = 0;

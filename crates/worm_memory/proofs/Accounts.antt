@@ -1,7 +1,7 @@
 -- That calls fail as is planned, by the numbers of steps and calls: before the first call, and with each one more.
 use Rattle.std.proofs.Common.{◌≡◌, ◌≤◌, ◌<◌, ◌^◌, ◌+◌, ◌-◌, ◌==◌, if◌then◌else◌, ◌&&◌, ◌||◌, ◌⊎◌, ⊎_elim, inl, inr, cond, nat_le, ℕ, Bool, true, false, List, [], ◌∷◌, ◌++◌, Option, Some, None, refl, ap, sym, subst, ◌∙◌, arith}
-use Rattle.std.specs.List.{count_by, list_any}
-use Rattle.std.proofs.lemmas.Bool.{and_right, cases_Bool, or_cases, or_from, or_left, or_right, true≢false}
+use Rattle.std.specs.List.{count_by, list_all, list_any}
+use Rattle.std.proofs.lemmas.Bool.{and_from, and_parts, and_right, cases_Bool, or_cases, or_from, or_left, or_right, true≢false}
 use Rattle.std.proofs.lemmas.Bool.Decides.{nat_tests}
 use Rattle.std.proofs.lemmas.List.Sums.{sum_by-cons}
 use Rattle.worm_device.specs.Counts.{Rose, next_count}
@@ -54,6 +54,22 @@ any_split : {A : Type 0} (f g h : A → Bool) → ((x : A) → f x ≡ true → 
 any_split f g h each [] is = inl is
 any_split f g h each (x ∷ xs) is =
     or_split (f x) (list_any f xs) (g x) (list_any g xs) (h x) (list_any h xs) (each x) (any_split f g h each xs) is
+
+-- tests that each passes
+pub all_more : {A : Type 0} (f g : A → Bool) → ((x : A) → f x ≡ true → g x ≡ true) → (xs : List A)
+    → list_all f xs ≡ true → list_all g xs ≡ true
+all_more f g each [] is = refl
+all_more f g each (x ∷ xs) is =
+    let both = and_parts (f x) (list_all f xs) is in
+    and_from (g x) (list_all g xs) (each x both.0) (all_more f g each xs both.1)
+
+pub all_both : {A : Type 0} (f g h : A → Bool) → ((x : A) → f x ≡ true → g x ≡ true → h x ≡ true) → (xs : List A)
+    → list_all f xs ≡ true → list_all g xs ≡ true → list_all h xs ≡ true
+all_both f g h each [] one two = refl
+all_both f g h each (x ∷ xs) one two =
+    let f_both = and_parts (f x) (list_all f xs) one in
+    let g_both = and_parts (g x) (list_all g xs) two in
+    and_from (h x) (list_all h xs) (each x f_both.0 g_both.0) (all_both f g h each xs f_both.1 g_both.1)
 
 -- how many pass a test
 sums_below : (u v w a b c d e f : ℕ) → u ≡ a + d → v ≡ b + e → w ≡ c + f → a + b ≤ c → d + e ≤ f → u + v ≤ w

@@ -2,7 +2,8 @@
 use Rattle.std.proofs.Common.{◌≡◌, ◌≤◌, ◌<◌, ◌+◌, ◌-◌, ◌^◌, ◌==◌, ◌&&◌, ◌||◌, if◌then◌else◌, ⊎_elim, ℕ, Bool, true, false, List, [], ◌∷◌, ◌++◌, drop, length, Option, Some, None, is_some, refl, ap, sym, subst, ◌∙◌, arith}
 use Rattle.std.specs.List.{list_all, list_any}
 use Rattle.std.specs.Str.{bytes_eq}
-use Rattle.std.proofs.lemmas.Bool.{and_from, and_parts, cond-false, cond-true, cond_both, false_from_ne_true, false≢true, or_left, or_right, true≢false}
+use Rattle.std.proofs.lemmas.Bool.{and_from, and_parts, cond-false, cond-true, cond_both, false≢true, or_left, or_right, true≢false}
+use Rattle.std.proofs.Math.Logic.{∥∥₁_map}
 use Rattle.std.proofs.lemmas.Bool.Decides.{nat_tests}
 use Rattle.std.proofs.lemmas.List.{drop-append-le, length-append}
 use Rattle.std.proofs.lemmas.List.Folds.{list_all-append, list_any-append}
@@ -12,15 +13,19 @@ use Rattle.worm_device.specs.Counts.{next_count}
 use Rattle.worm_device.specs.State.{Instant}
 use Rattle.worm_memory.specs.declared.change.Change.{Change}
 use Rattle.worm_memory.specs.declared.change.Change.TheVariants.{Wrote, Foreign, Synced, Lost, Crashed}
+use Rattle.worm_memory.specs.declared.mark.CallNumbers.{CallNumbers}
 use Rattle.worm_memory.specs.declared.moment.Timed.{Timed}
-use Rattle.worm_memory.specs.Memory.{KeepsPlan, Memory, device_of, with_call, with_fault, with_foreign}
+use Rattle.worm_memory.specs.Memory.{KeepsPlan, Memory, call_of, course_of, device_of, with_call, with_fault, with_foreign}
 use Rattle.worm_memory.specs.Outcomes.{Outcome, goes_on, fails, foreign_into, after_timed, after_others, others_done, arrived}
 use Rattle.worm_memory.specs.Plans.{stands_if_reached, is_called_for, is_reached, is_refused, last_changes, last_faults, last_foreign_writes, names, next_step, calls_for}
 use Rattle.worm_memory.specs.Worlds.{blank, world}
-use Rattle.worm_memory.proofs.Accounts.{any_more, most_next, named_reached, no_true, none_next, reached_later, reached_none, reached_now, some_next, step_later}
+use Rattle.worm_memory.proofs.Accounts.{all_both, all_more, any_more, most_next, named_reached, no_true, none_next, reached_later, reached_none, reached_now, some_next, step_later}
 use Rattle.worm_memory.proofs.Arriving.{Comes, HasCome, come_others, come_timed, comes_self}
 use Rattle.worm_memory.proofs.Counted.{few_next, others_count, others_none, timed_numbers, unwritten_next}
-use Rattle.worm_memory.proofs.Others.{no_others}
+use Rattle.worm_memory.proofs.Others.{ongoing_before}
+use Rattle.worm_memory.specs.Runs.{HasRun}
+use Rattle.worm_memory.proofs.MadeThen.{kept_made}
+use Rattle.worm_memory.proofs.Running.{arrived_run}
 use Rattle.worm_memory.proofs.Worlds.{Adds, after_append, image_grows, image_is, written_here}
 
 -- one change more since the command began
@@ -34,8 +39,9 @@ called_append f n changes change within all one =
 -- What others' writes make of a device: changes that are called for, and nothing else.
 record HasOthers (s c : ℕ) (planned : List Timed) (m : Memory) (now : Outcome) : Type 0 where
   pub changes : List Change
+  pub made_in : List CallNumbers
   pub writes : ℕ
-  pub is : now.memory ≡ record m { changes = changes; foreign_writes = writes }
+  pub is : now.memory ≡ record m { changes = changes; made_in = made_in; foreign_writes = writes }
   pub longer : last_changes m.marks ≤ length changes
   pub named : list_all (is_called_for s c planned) (drop (last_changes m.marks) changes) ≡ true
 
@@ -76,6 +82,7 @@ module _ (b : Bool) (planned : List Timed) (m : Memory) (s c : ℕ) (steps : m.s
       → HasOthers m.steps m.calls planned m (goes_on (with_foreign now.memory t.at t.value) room)
   wrote t now room any has = record {
     changes = has.changes ++ Foreign t.at t.value ∷ [];
+    made_in = has.made_in ++ call_of m ∷ [];
     writes = next_count has.writes;
     is = ap (λ (x : Memory). with_foreign x t.at t.value) has.is;
     longer = let l : length (has.changes ++ Foreign t.at t.value ∷ []) ≡ length has.changes + 1 = simp length-append in
@@ -88,6 +95,7 @@ module _ (b : Bool) (planned : List Timed) (m : Memory) (s c : ℕ) (steps : m.s
       → HasOthers m.steps m.calls planned m (goes_on now.memory now.room)
   went_on now has = record {
     changes = has.changes;
+    made_in = has.made_in;
     writes = has.writes;
     is = has.is;
     longer = has.longer;
@@ -116,12 +124,6 @@ module _ (b : Bool) (planned : List Timed) (m : Memory) (s c : ℕ) (steps : m.s
   others_called (t ∷ rest) now of has = cond_both now.failed _ _ Done (λ failed ongoing. has ongoing)
       (λ ongoing. others_called rest (after_timed b t now.memory now.room) (rest_of t rest of)
       (one_timed t rest now of (has ongoing)))
-
--- of what failed before nothing comes
-ongoing_before : (b : Bool) (rest : List Timed) (now : Outcome) → (after_others b rest now).failed ≡ false
-    → now.failed ≡ false
-ongoing_before b rest now ongoing = false_from_ne_true now.failed
-    (λ failed. true≢false (sym failed ∙ sym (ap (λ (o : Outcome). o.failed) (no_others b rest now failed)) ∙ ongoing))
 
 -- what stands stays while others write
 come_itself : (now : Outcome) → now.failed ≡ false → now.memory.faults < 2 ^ 64 → now.memory.foreign_writes < 2 ^ 64
@@ -199,22 +201,6 @@ all_made b s c (t ∷ rest) m now steps calls come ongoing =
     (λ other. refl))
     (all_made b s c rest m one (same.0 ∙ steps) (same.1 ∙ calls) next still))
 
--- tests of each of these
-all_more : {A : Type 0} (f g : A → Bool) → ((x : A) → f x ≡ true → g x ≡ true) → (xs : List A)
-    → list_all f xs ≡ true → list_all g xs ≡ true
-all_more f g each [] is = refl
-all_more f g each (x ∷ xs) is =
-    let both = and_parts (f x) (list_all f xs) is in
-    and_from (g x) (list_all g xs) (each x both.0) (all_more f g each xs both.1)
-
-all_both : {A : Type 0} (f g h : A → Bool) → ((x : A) → f x ≡ true → g x ≡ true → h x ≡ true) → (xs : List A)
-    → list_all f xs ≡ true → list_all g xs ≡ true → list_all h xs ≡ true
-all_both f g h each [] one two = refl
-all_both f g h each (x ∷ xs) one two =
-    let f_both = and_parts (f x) (list_all f xs) one in
-    let g_both = and_parts (g x) (list_all g xs) two in
-    and_from (h x) (list_all h xs) (each x f_both.0 g_both.0) (all_both f g h each xs f_both.1 g_both.1)
-
 calls_later : (s c s' c' at : ℕ) (value : List ℕ) → s ≤ s' → c ≤ c' → (t : Timed) → calls_for s c at value t ≡ true
     → calls_for s' c' at value t ≡ true
 calls_later s c s' c' at value more calls t is =
@@ -270,6 +256,7 @@ arrived_keeps b m room now is ongoing ordered fs fc ff fw later longer keeps =
     let has : HasOthers (next_step b s) (next_count c) planned begun o =
     others_called b planned begun s c refl refl planned start (λ f any. any) (λ so. record {
       changes = m.changes;
+      made_in = m.made_in;
       writes = m.foreign_writes;
       is = refl;
       longer = longer;
@@ -283,17 +270,27 @@ arrived_keeps b m room now is ongoing ordered fs fc ff fw later longer keeps =
     (stands_if_named b (next_step b s) (next_count c) (world o.memory.changes).image)
     (stands_if_reached (next_step b s) (next_count c) (world o.memory.changes).image)
     (come_now b s c (world m.changes).image (world o.memory.changes).image (grows_to b planned start refl ff fw))
-    planned keeps.made
+    planned keeps.stands
     (all_made b (next_step b s) (next_count c) planned begun start refl refl (come_itself start refl ff fw) ongoing) in
     let wrote : has.writes ≡ o.memory.foreign_writes = ap (λ (x : Memory). x.foreign_writes) (sym has.is) in
     let last : now.memory ≡ record begun {
       changes = has.changes;
+      made_in = has.made_in;
       foreign_writes = has.writes;
       faults = if r then next_count m.faults else m.faults;
     } =
     ap (λ (x : Outcome). x.memory) (is ∙ cond-false o.failed o (if r then fails o.memory o.room else o) ongoing)
-    ∙ plan_adds r o (record begun { changes = has.changes; foreign_writes = has.writes }) has.is in
+    ∙ plan_adds r o (record begun { changes = has.changes; made_in = has.made_in; foreign_writes = has.writes }) has.is in
+    let arrived_as : Memory = record begun {
+      changes = has.changes;
+      made_in = has.made_in;
+      foreign_writes = has.writes;
+      faults = if r then next_count m.faults else m.faults;
+    } in
+    let ran : ∥ HasRun m.plan m.marks (course_of arrived_as) ∥₁ = ∥∥₁_map keeps.run
+    (λ run. subst (HasRun m.plan m.marks) (ap course_of last) (arrived_run b m room now is ongoing run)) in
     subst KeepsPlan (sym last) (record {
+      run = ran;
       none = none_next b m.plan s c (last_faults m.marks) m.faults ordered fs fc keeps.none;
       most = most_next b m.plan s c (last_faults m.marks) m.faults ordered fs fc keeps.most;
       some = some_next b m.plan s c (last_faults m.marks) m.faults ordered fs fc later keeps.some;
@@ -303,7 +300,8 @@ arrived_keeps b m room now is ongoing ordered fs fc ff fw later longer keeps =
       few = few_next b s c (last_foreign_writes m.marks) m.foreign_writes has.writes planned ordered fs fc keeps.few
           (omega (arith, wrote, others_count b (next_step b s) (next_count c) planned start refl refl));
       named = has.named;
-      made = ap (λ (x : Memory). list_all (stands_if_reached (next_step b s) (next_count c) (world x.changes).image)
+      made = kept_made m.plan m.marks (course_of arrived_as) ran;
+      stands = ap (λ (x : Memory). list_all (stands_if_reached (next_step b s) (next_count c) (world x.changes).image)
           planned) (sym has.is) ∙ made;
     })
 

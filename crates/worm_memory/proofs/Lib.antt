@@ -9,6 +9,8 @@ pub mod Losing
 pub mod Crashes
 pub mod Others
 pub mod Planning
+pub mod Running
+pub mod MadeThen
 pub mod Unsure
 pub mod Worlds
 pub mod Accounts

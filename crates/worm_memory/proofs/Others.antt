@@ -1,7 +1,7 @@
 -- The foreign writes that are planned, one after another.
 use Rattle.std.proofs.Common.{◌≡◌, ◌<◌, ◌+◌, ◌++◌, if◌then◌else◌, ℕ, zero, suc, Bool, true, false, List, [], ◌∷◌, drop, Some, None, refl, ap, sym, subst, ◌∙◌, add-one}
 use Rattle.std.specs.List.{slice_get}
-use Rattle.std.proofs.lemmas.Bool.{cond-true}
+use Rattle.std.proofs.lemmas.Bool.{cond-true, false_from_ne_true, true≢false}
 use Rattle.std.proofs.lemmas.Option.{none-some, same_Some}
 use Rattle.worm_memory.specs.Memory.{Memory}
 use Rattle.worm_memory.specs.Outcomes.{Outcome, goes_on, after_others, after_timed}
@@ -31,6 +31,12 @@ pub no_others : (is_step : Bool) (planned : List Timed) (now : Outcome) → now.
     → after_others is_step planned now ≡ now
 no_others is_step [] now failed = refl
 no_others is_step (timed ∷ rest) now failed = cond-true now.failed _ _ failed
+
+-- of what failed before nothing comes
+pub ongoing_before : (b : Bool) (rest : List Timed) (now : Outcome) → (after_others b rest now).failed ≡ false
+    → now.failed ≡ false
+ongoing_before b rest now ongoing = false_from_ne_true now.failed
+    (λ failed. true≢false (sym failed ∙ sym (ap (λ (o : Outcome). o.failed) (no_others b rest now failed)) ∙ ongoing))
 
 -- and past the last one neither
 nothing_left : (planned : List Timed) (place : ℕ) → slice_get planned place ≡ None → drop place planned ≡ []

@@ -6,12 +6,13 @@ use Rattle.std.proofs.lemmas.Bool.{cases_lt}
 use Rattle.std.proofs.lemmas.List.{append-nil, append_assoc}
 use Rattle.worm_device.specs.Calls.{Called}
 use Rattle.worm_memory.specs.Device.{ACommandHasRoom, ACrashHasRoom, APlanIsKept, TheCountIsRecorded, memory_of, state_of}
-use Rattle.worm_memory.specs.Memory.{BeginningsTell, TheRecordTells}
-use Rattle.worm_memory.specs.Plans.{CommandPlan, begun_rows, by_plan_rows, fail_row, foreign_row, mark_row, stop_rows}
+use Rattle.worm_memory.specs.Memory.{BeginningsTell, KeepsPlan, TheRecordTells, course_of}
+use Rattle.worm_memory.specs.Plans.{CommandPlan, begun_rows, by_plan_rows, fail_row, foreign_row, mark_row, plan_of, stop_rows}
 use Rattle.worm_memory.specs.Worlds.{world}
 use Rattle.worm_memory.specs.declared.mark.Mark.{Mark}
 use Rattle.worm_memory.specs.declared.memory_device.MemoryDevice.{MemoryDevice}
 use Rattle.worm_memory.proofs.Blanks.{some_blank}
+use Rattle.worm_memory.proofs.MadeThen.{kept_made}
 use Rattle.worm_memory.specs.declared.moment.Moment.{Moment}
 use Rattle.worm_memory.specs.declared.moment.Moment.TheVariants.{Step, Call}
 use Rattle.worm_memory.specs.declared.moment.Timed.{Timed}
@@ -249,21 +250,27 @@ pub still_by_plan : (begun now : MemoryDevice) → Called (state_of begun) (stat
     → (memory_of begun).by_plan ≡ true → now.by_plan ≡ true
 still_by_plan begun now called by_plan = (beginnings_tell (memory_of begun) (memory_of now) called.begun).2 ∙ by_plan
 
+-- a device whose command goes by its plan
+pub keeps_plan : (d : MemoryDevice) → d.by_plan ≡ true → KeepsPlan (memory_of d)
+keeps_plan d is = record {
+  run = d.ran is;
+  none = d.none_failed is;
+  most = d.most_failed is;
+  some = d.some_failed is;
+  unwritten = d.none_written is;
+  few = d.most_written is;
+  named = d.named is;
+  made = kept_made (plan_of d.schedule) d.marks.items (course_of (memory_of d)) (d.ran is);
+  stands = d.stands is;
+}
+
 pub plan_is_kept : APlanIsKept
 plan_is_kept begun now called by_plan =
     let same = beginnings_tell (memory_of begun) (memory_of now) called.begun in
     let still = still_by_plan begun now called by_plan in (
       same.0,
       same.1,
-      record {
-        none = now.none_failed still;
-        most = now.most_failed still;
-        some = now.some_failed still;
-        unwritten = now.none_written still;
-        few = now.most_written still;
-        named = now.named still;
-        made = now.made still;
-      },
+      keeps_plan now still,
     )
 
 pub command_has_room : ACommandHasRoom

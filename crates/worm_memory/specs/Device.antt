@@ -22,6 +22,7 @@ abbrev pub memory_of : MemoryDevice → Memory
 memory_of device = record {
   cells = vec_len device.cells;
   changes = device.changes.items;
+  made_in = device.made_in.items;
   marks = device.marks.items;
   steps = device.schedule.steps;
   calls = device.schedule.calls;

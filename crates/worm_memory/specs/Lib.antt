@@ -1,8 +1,10 @@
 pub mod Device
 pub mod Losses
 pub mod Memory
+pub mod Moments
 pub mod Outcomes
 pub mod Plans
 pub mod Proper
+pub mod Runs
 pub mod Unsure
 pub mod Worlds

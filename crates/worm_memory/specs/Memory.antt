@@ -5,10 +5,13 @@ use Rattle.std.specs.List.{list_all}
 use Rattle.worm_device.specs.Counts.{Rose, next_count}
 use Rattle.worm_device.specs.Calls.{Remembers}
 use Rattle.worm_device.specs.State.{DeviceState}
+use Rattle.worm_memory.specs.Moments.{made_if_blank}
 use Rattle.worm_memory.specs.Plans.{CommandPlan, no_plan, next_step, begun_rows, failures_reached, stands_if_reached, is_called_for, last_changes, last_faults, last_foreign_writes, may_be_written, may_fail, may_stop, must_fail, writes_reached}
+use Rattle.worm_memory.specs.Runs.{Course, HasRun, IsInStep}
 use Rattle.worm_memory.specs.Worlds.{world}
 use Rattle.worm_memory.specs.declared.change.Change.{Change}
 use Rattle.worm_memory.specs.declared.change.Change.TheVariants.{Wrote, Foreign, Synced, Lost, Crashed}
+use Rattle.worm_memory.specs.declared.mark.CallNumbers.{CallNumbers}
 use Rattle.worm_memory.specs.declared.mark.Mark.{Mark}
 use Rattle.worm_memory.specs.declared.moment.Moment.{Moment}
 use Rattle.worm_memory.specs.declared.moment.Timed.{Timed}
@@ -19,6 +22,8 @@ pub record Memory : Type 0 where
   pub cells : ℕ
   -- its record: what has changed, in order
   pub changes : List Change
+  -- of each change which call made it
+  pub made_in : List CallNumbers
   -- what it kept when each command began, in order
   pub marks : List Mark
   -- how many steps the present command has made so far: writes and syncs
@@ -52,9 +57,13 @@ device_of m = record {
   past = λ moment. world (take moment m.changes);
 }
 
--- one more change
+-- the numbers of the call that has come
+abbrev pub call_of : Memory → CallNumbers
+call_of m = record { steps = m.steps; calls = m.calls }
+
+-- one more change, made in the call that has come
 abbrev pub with_change : Memory → Change → Memory
-with_change m change = record m { changes = m.changes ++ change ∷ [] }
+with_change m change = record m { changes = m.changes ++ change ∷ []; made_in = m.made_in ++ call_of m ∷ [] }
 
 -- a count of foreign writes, with this change more
 abbrev pub counted_with : Change → ℕ → ℕ
@@ -68,6 +77,7 @@ counted_with Crashed count = count
 abbrev pub with_put : Memory → Change → Memory
 with_put m change = record m {
   changes = m.changes ++ change ∷ [];
+  made_in = m.made_in ++ call_of m ∷ [];
   foreign_writes = counted_with change m.foreign_writes;
 }
 
@@ -136,8 +146,26 @@ with_stop m moment = with_plan m (record m.plan { stop = Some moment })
 abbrev pub with_planned : Memory → Timed → Memory
 with_planned m timed = with_plan m (record m.plan { foreign = m.plan.foreign ++ timed ∷ [] })
 
+-- how far the present command has come
+abbrev pub course_of : Memory → Course
+course_of m = record {
+  changes = m.changes;
+  made_in = m.made_in;
+  steps = m.steps;
+  calls = m.calls;
+  faults = m.faults;
+  foreign_writes = m.foreign_writes;
+}
+
+-- the present command's last call is a step that goes on, and has changed nothing itself so far
+abbrev pub IsStepOpen : Memory → Type 0
+IsStepOpen m = ∥ IsInStep m.plan m.marks (course_of m) ∥₁
+
 -- Faults and foreign writes of the present command are those of its plan, as far as it has come.
 pub record KeepsPlan (m : Memory) : Type 0 where
+  -- call by call: each planned foreign write was made exactly where its moment named the call and its cell was blank
+  -- then, and each call failed exactly where a moment that fails named it, or the stop was reached before it
+  pub run : ∥ HasRun m.plan m.marks (course_of m) ∥₁
   -- no call failed where no moment that fails was reached, nor the stop
   pub none : may_fail m.plan m.steps m.calls ≡ false → m.faults ≡ last_faults m.marks
   -- up to the stop no more calls failed than moments that fail were reached
@@ -152,8 +180,11 @@ pub record KeepsPlan (m : Memory) : Type 0 where
       → m.foreign_writes ≤ last_foreign_writes m.marks + writes_reached m.plan m.steps m.calls
   -- each foreign write since the command began was planned, and its moment was reached
   pub named : list_all (is_called_for m.steps m.calls m.plan.foreign) (drop (last_changes m.marks) m.changes) ≡ true
-  -- each that was planned, and whose moment was reached, was made if its cell was blank
-  pub made : list_all (stands_if_reached m.steps m.calls (world m.changes).image) m.plan.foreign ≡ true
+  -- each that was planned, and whose moment was reached, was made if its cell was blank then
+  pub made : list_all (made_if_blank m.steps m.calls (take (last_changes m.marks) m.changes)
+      (drop (last_changes m.marks) m.changes) (drop (last_changes m.marks) m.made_in)) m.plan.foreign ≡ true
+  -- and so its cell is written in the end
+  pub stands : list_all (stands_if_reached m.steps m.calls (world m.changes).image) m.plan.foreign ≡ true
 
 -- What stood in a device is told by its record from then on: it is what the changes up to then make of blank cells.
 abbrev pub TheRecordTells : Type 0

@@ -1,7 +1,7 @@
 -- What a call makes of a device in memory: what becomes of all that it tells, of its room, and whether the call fails.
-use Rattle.std.specs.Prelude.{◌==◌, ◌-◌, ◌++◌, if◌then◌else◌, ℕ, Bool, true, false, List, [], ◌∷◌, Option, Some, None}
+use Rattle.std.specs.Prelude.{◌==◌, ◌-◌, ◌++◌, if◌then◌else◌, length, replicate, ℕ, Bool, true, false, List, [], ◌∷◌, Option, Some, None}
 use Rattle.worm_memory.specs.Losses.{crash_changes}
-use Rattle.worm_memory.specs.Memory.{Memory, with_call, with_change, with_fault, with_foreign, with_hand}
+use Rattle.worm_memory.specs.Memory.{Memory, call_of, with_call, with_change, with_fault, with_foreign, with_hand}
 use Rattle.worm_memory.specs.Plans.{names, is_refused}
 use Rattle.worm_memory.specs.Unsure.{unsure_of}
 use Rattle.worm_memory.specs.Worlds.{world}
@@ -78,4 +78,7 @@ after_sync now = if now.failed then now else synced_over (unsure_of now.memory.c
 
 -- all that a device tells after a crash that keeps these cells
 abbrev pub with_crash : Memory → List ℕ → Memory
-with_crash m keep = record (with_hand m) { changes = m.changes ++ crash_changes keep (unsure_of m.changes) }
+with_crash m keep = record (with_hand m) {
+  changes = m.changes ++ crash_changes keep (unsure_of m.changes);
+  made_in = m.made_in ++ replicate (length (crash_changes keep (unsure_of m.changes))) (call_of m);
+}

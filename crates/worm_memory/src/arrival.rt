@@ -1,6 +1,6 @@
 //! What happens before a call of a device in memory does its own work: it is counted, others write, and it may fail.
 ghost use Rattle.std.specs.Prelude.{◌≡◌, ◌<◌, ◌^◌, true, false, length, is_err, slice_get, IsErr, Some};
-ghost use Rattle.worm_memory.specs.Memory.{with_call};
+ghost use Rattle.worm_memory.specs.Memory.{with_call, IsStepOpen};
 ghost use Rattle.worm_memory.specs.Plans.{is_refused};
 ghost use Rattle.worm_memory.specs.Device.{memory_of, outcome, room_of, Stays};
 ghost use Rattle.worm_memory.specs.Outcomes.{goes_on, after_others, after_timed, arrived, others_done};
@@ -13,6 +13,8 @@ impl MemoryDevice {
     /// Comes to the next call, which is a step or not. Where this fails, the call has failed, and that is counted.
     pub(crate) fn arrive(&mut self, is_step: bool) -> Result<(), Failed>
         ensures arrives { outcome self.new (is_err result) ≡ arrived is_step (memory_of self.old) (room_of self.old) }
+        ensures in_step { is_err result ≡ false → is_step ≡ true → self.new.by_plan ≡ true
+            → IsStepOpen (memory_of self.new) }
         ensures cells { (memory_of self.new).cells ≡ (memory_of self.old).cells }
         ensures faults { (memory_of self.old).faults < 2 ^ 64 }
         ensures foreign_writes { (memory_of self.old).foreign_writes < 2 ^ 64 }

@@ -36,19 +36,24 @@
 //! A call that fails changes nothing itself and counts one fault. There are no other faults than these: planned ones,
 //! and calls that found no room.
 //!
-//! A command that begins with room for two changes of each cell **goes by its plan**: after each row of its calls the
-//! faults and the foreign writes since its mark are just those of the moments that it has reached. No call changes what
-//! a device keeps from a beginning on, which is its marks, the plan, and whether the command goes by it; so this holds
+//! A command that begins with room for two changes of each cell **goes by its plan**: it is a row of calls, and in each
+//! of them a planned foreign write was made exactly where its moment named the call and its cell was blank then, and the
+//! call failed exactly where a moment that fails named it or the stop was reached before it. No call changes what a
+//! device keeps from a beginning on, which is its marks, the plan, and whether the command goes by it; so this holds
 //! behind any engine that calls the device, and `a_plan_is_kept` says it. The command does not go by its plan any more
 //! once something is planned after its first call, or `foreign` or `crash` is called by hand.
+//!
+//! Of each change the device notes which call made it (`made_in`), so that what was blank when a moment came is read
+//! off the record. A write of cell 5 that was made in step 9 says that the cell was blank when step 9 came: where
+//! somebody else was to write it before that step, the record has that write, and not this one.
 //!
 //! A **`crash`** takes each cell that is not sure and that it is not told to keep; all that stands then is sure. It
 //! goes into the record cell by cell (`Lost`, then `Crashed`). `a_crash_keeps` says what this row of changes leaves,
 //! and `unsure_cells` which cells a crash could take.
 //!
 //! Stands on `worm_device`. Begin with `memory_device.rt` and `device.rt`; `specs/Worlds.antt` says what a record
-//! stands for, `specs/Outcomes.antt` what a call makes of the device, and `specs/Memory.antt` (`KeepsPlan`) what it is
-//! to go by a plan.
+//! stands for, `specs/Outcomes.antt` what a call makes of the device, `specs/Runs.antt` what a row of calls makes of a
+//! command by its plan, and `specs/Memory.antt` (`KeepsPlan`) what it is to go by a plan.
 #![tactic(auto)]
 
 mod arrival;
@@ -68,6 +73,6 @@ pub use laws::{
     the_count_is_recorded, the_record_tells, unsure_cells,
 };
 pub use losses::Crash;
-pub use mark::Mark;
+pub use mark::{CallNumbers, Mark};
 pub use memory_device::MemoryDevice;
 pub use moment::Moment;

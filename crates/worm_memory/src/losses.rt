@@ -1,11 +1,11 @@
 //! A crash of a device in memory: what it takes, and what stays.
-ghost use Rattle.std.specs.Prelude.{◌≡◌, ◌<◌, ◌≤◌, ◌+◌, ◌++◌, ℕ, length, slice_index, OnOk, vec_len, vec_capacity};
+ghost use Rattle.std.specs.Prelude.{◌-◌, ◌≡◌, ◌<◌, ◌≤◌, ◌+◌, ◌++◌, ℕ, length, replicate, slice_index, OnOk, vec_len, vec_capacity};
 ghost use Rattle.worm_memory.specs.Device.{memory_of, room_of, state_of, CrashEnds};
 ghost use Rattle.worm_memory.specs.Losses.{crash_cells, crash_changes, kept_count, kept_image};
 ghost use Rattle.worm_memory.specs.Outcomes.{with_crash};
 ghost use Rattle.worm_memory.specs.Unsure.{is_among, unsure_of};
 
-use crate::{Change, MemoryDevice};
+use crate::{CallNumbers, Change, MemoryDevice};
 use cell_types::Cell;
 use worm_device::Failed;
 
@@ -52,7 +52,9 @@ impl MemoryDevice {
         // A crash is no call: it takes what the plan may have put, and may use more room than calls do.
         self.by_plan = false;
         self.ample = false;
+        let numbers = self.schedule.numbers();
         lose(&mut self.cells, &mut self.changes, &self.unsure, keep);
+        note(&mut self.made_in, numbers, self.changes.len());
         self.unsure.clear();
         self.spare = self.spare - unsure - 1;
     }
@@ -82,6 +84,19 @@ fn lose(cells: &mut [Option<Cell>], changes: &mut Vec<Change>, unsure: &[u32], k
         }
     }
     changes.push_reserved(Change::Crashed);
+}
+
+/// Notes these numbers of each change more, until there are so many.
+fn note(made_in: &mut Vec<CallNumbers>, numbers: CallNumbers, changes: usize)
+    requires most { changes ≤ vec_capacity made_in.old }
+    requires least { vec_len made_in.old ≤ changes }
+    ensures notes { made_in.new.items ≡ made_in.old.items ++ replicate (changes - vec_len made_in.old) numbers }
+    ensures all { vec_len made_in.new ≡ changes }
+    ensures capacity { vec_capacity made_in.new ≡ vec_capacity made_in.old }
+{
+    for at in made_in.len()..changes {
+        made_in.push_reserved(numbers);
+    }
 }
 
 /// Whether the cell is one of those that stay.

@@ -6,11 +6,12 @@ ghost use Rattle.std.specs.Prelude.{◌*◌, ◌^◌, ◌-◌, drop, true, false
 ghost use Rattle.std.specs.List.{list_all};
 ghost use Rattle.worm_device.specs.Counts.{Rose};
 ghost use Rattle.worm_memory.specs.Plans.{AreWritesInside, failures_reached, stands_if_reached, is_called_for, last_changes, last_faults, last_foreign_writes, may_be_written, may_fail, may_stop, must_fail, plan_of, writes_reached};
+ghost use Rattle.worm_memory.specs.Runs.{HasRun};
 ghost use Rattle.worm_memory.specs.Unsure.{blanks, unsure_of};
 ghost use Rattle.worm_memory.specs.Worlds.{blank, foreign_writes_in, world, AreChanges, AreChanges-prop, HasBecome, IsAllSure, PutsInto};
 
 use crate::schedule::Schedule;
-use crate::{Change, Mark};
+use crate::{CallNumbers, Change, Mark};
 use cell_types::{Cell, NoMemory};
 use std::alloc::Global;
 use worm_device::{Failed, Written};
@@ -21,6 +22,8 @@ use worm_device::{Failed, Written};
 pub struct MemoryDevice {
     pub(crate) cells: Vec<Option<Cell>>,
     pub(crate) changes: Vec<Change>,
+    /// Of each change, which call made it.
+    pub(crate) made_in: Vec<CallNumbers>,
     /// The cells that are written and not sure, in the order in which they were written.
     pub(crate) unsure: Vec<u32>,
     pub(crate) marks: Vec<Mark>,
@@ -41,6 +44,8 @@ pub struct MemoryDevice {
     ghost holds: { HasBecome cells.items (world changes.items).image } by { Prim.hlevel props },
     ghost are_unsure: { unsure.items ≡ unsure_of changes.items } by { Prim.hlevel props },
     ghost changes_fit: { vec_len changes + spare ≤ vec_capacity changes },
+    ghost made_fit: { vec_len made_in + spare ≤ vec_capacity made_in },
+    ghost one_each: { vec_len made_in ≡ vec_len changes },
     ghost unsure_fit: { vec_len unsure + spare ≤ vec_capacity unsure },
     ghost planned_inside: { AreWritesInside (vec_len cells) schedule.foreign.items } by { Prim.hlevel props },
     ghost few: { blanks cells.items + vec_len unsure ≤ vec_len cells },
@@ -50,6 +55,14 @@ pub struct MemoryDevice {
     ghost longer: { last_changes marks.items ≤ vec_len changes },
     ghost counted: { foreign_writes ≡ foreign_writes_in changes.items } by { Prim.hlevel props },
     ghost backed: { by_plan ≡ true → ample ≡ true } by { Prim.hlevel props },
+    ghost ran: { by_plan ≡ true → ∥ HasRun (plan_of schedule) marks.items (record {
+      changes = changes.items;
+      made_in = made_in.items;
+      steps = schedule.steps;
+      calls = schedule.calls;
+      faults = faults;
+      foreign_writes = foreign_writes;
+    }) ∥₁ } by { Prim.hlevel props },
     ghost none_failed: { by_plan ≡ true → may_fail (plan_of schedule) schedule.steps schedule.calls ≡ false
         → faults ≡ last_faults marks.items } by { Prim.hlevel props },
     ghost most_failed: { by_plan ≡ true → may_stop schedule.stop schedule.steps schedule.calls ≡ false
@@ -65,13 +78,13 @@ pub struct MemoryDevice {
     ghost named: { by_plan ≡ true
         → list_all (is_called_for schedule.steps schedule.calls schedule.foreign.items)
         (drop (last_changes marks.items) changes.items) ≡ true } by { Prim.hlevel props },
-    ghost made: { by_plan ≡ true
+    ghost stands: { by_plan ≡ true
         → list_all (stands_if_reached schedule.steps schedule.calls (world changes.items).image) schedule.foreign.items ≡ true } by { Prim.hlevel props },
 }
 
 impl MemoryDevice {
-    ghost use Rattle.std.specs.Prelude.{◌≡◌, ◌≤◌, ◌<◌, ◌^◌, ◌-◌, ◌+◌, ◌↔◌, is_err, min, [], None, IsErr, IsOk, IsTrue, IfOk, OnOk, OnErr};
-    ghost use Rattle.worm_memory.specs.Memory.{KeepsPlan, Memory, with_foreign, with_read};
+    ghost use Rattle.std.specs.Prelude.{◌≡◌, ◌≤◌, ◌<◌, ◌^◌, ◌-◌, ◌+◌, ◌↔◌, is_err, length, min, [], None, IsErr, IsOk, IsTrue, IfOk, OnOk, OnErr};
+    ghost use Rattle.worm_memory.specs.Memory.{IsStepOpen, KeepsPlan, Memory, with_foreign, with_read};
     ghost use Rattle.worm_memory.specs.Plans.{no_plan};
     ghost use Rattle.worm_memory.specs.Outcomes.{recorded};
     ghost use Rattle.worm_memory.specs.declared.change.Change.TheVariants.{Synced, Wrote};
@@ -85,6 +98,7 @@ impl MemoryDevice {
         ensures blank { IfOk result (λ device. memory_of device ≡ record {
           cells = cells;
           changes = [];
+          made_in = [];
           marks = [];
           steps = 0;
           calls = 0;
@@ -102,6 +116,7 @@ impl MemoryDevice {
         Ok(MemoryDevice {
             cells: blank,
             changes: Vec::new(alloc),
+            made_in: Vec::new(alloc),
             unsure: Vec::new(alloc),
             marks: Vec::new(alloc),
             spare: 0,
@@ -132,6 +147,7 @@ impl MemoryDevice {
         let more = changes as usize;
         self.reserve_changes(more)?;
         self.reserve_unsure(more)?;
+        self.reserve_made_in(more)?;
         self.spare = changes;
         Ok(())
     }
@@ -158,6 +174,20 @@ impl MemoryDevice {
         self.unsure.reserve(more).map_err(|_| NoMemory)
     }
 
+    /// Takes memory for which calls make so many further changes.
+    fn reserve_made_in(&mut self, more: usize) -> Result<(), NoMemory>
+        ensures fits { OnOk result (vec_len self.new.made_in + more ≤ vec_capacity self.new.made_in) }
+        ensures same { memory_of self.new ≡ memory_of self.old }
+        ensures room { room_of self.new ≡ room_of self.old }
+        ensures changes { vec_len self.old.changes + more ≤ vec_capacity self.old.changes
+            → vec_len self.new.changes + more ≤ vec_capacity self.new.changes }
+        ensures unsure { vec_len self.old.unsure + more ≤ vec_capacity self.old.unsure
+            → vec_len self.new.unsure + more ≤ vec_capacity self.new.unsure }
+        ensures ready { HasMarkRoom self.old → HasMarkRoom self.new }
+    {
+        self.made_in.reserve(more).map_err(|_| NoMemory)
+    }
+
     /// Takes memory for the mark of one more command.
     fn reserve_mark(&mut self) -> Result<(), NoMemory>
         ensures ready { OnOk result (HasMarkRoom self.new) }
@@ -181,6 +211,14 @@ impl MemoryDevice {
         ensures are_changes { AreChanges (memory_of self.now).cells blank result.now }
     {
         &self.changes
+    }
+
+    /// Of each change, which call made it.
+    pub fn made_in(&self) -> &[CallNumbers]
+        ensures same { result.now ≡ (memory_of self.now).made_in }
+        ensures one_each { length result.now ≡ length (memory_of self.now).changes }
+    {
+        &self.made_in
     }
 
     /// Whether there is room for the mark of one more command.
@@ -249,6 +287,7 @@ impl MemoryDevice {
         requires free { (state_of self.old).image at ≡ None }
         requires room { 1 ≤ room_of self.old }
         requires ours { self.old.by_plan ≡ true → change ≡ Wrote at value }
+        requires in_step { self.old.by_plan ≡ true → IsStepOpen (memory_of self.old) }
         ensures records { RecordsPut change self.old self.new }
         ensures fits { (memory_of self.old).foreign_writes < 2 ^ 64 }
         ensures ample { self.new.ample ≡ self.old.ample }
@@ -259,6 +298,7 @@ impl MemoryDevice {
         self.cells[at as usize] = Some(value);
         self.changes.push_reserved(change);
         self.unsure.push_reserved(at);
+        self.made_in.push_reserved(self.schedule.numbers());
         self.spare -= 1;
     }
 
@@ -267,10 +307,12 @@ impl MemoryDevice {
         requires unsure { IsAllSure (world (memory_of self.old).changes) → ⊥ }
         requires some { 1 ≤ vec_len self.old.unsure }
         requires room { 1 ≤ room_of self.old }
+        requires in_step { self.old.by_plan ≡ true → IsStepOpen (memory_of self.old) }
         ensures { Records Synced self.old self.new }
     {
         self.changes.push_reserved(Change::Synced);
         self.unsure.clear();
+        self.made_in.push_reserved(self.schedule.numbers());
         self.spare -= 1;
     }
 

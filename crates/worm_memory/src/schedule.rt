@@ -4,6 +4,7 @@ ghost use Rattle.std.specs.List.{list_any};
 ghost use Rattle.worm_device.specs.Counts.{next_count};
 ghost use Rattle.worm_memory.specs.Plans.{no_plan, plan_of, names, next_step, is_stopped, is_refused};
 
+use crate::CallNumbers;
 use crate::moment::{Moment, Timed};
 use cell_types::NoMemory;
 use std::alloc::Global;
@@ -50,6 +51,16 @@ impl Schedule {
         self.fails.clear();
         self.stop = None;
         self.foreign.clear();
+    }
+
+    /// The numbers of the call that has come.
+    pub(crate) fn numbers(&self) -> CallNumbers
+        ensures { result ≡ record { steps = self.now.steps; calls = self.now.calls } }
+    {
+        CallNumbers {
+            steps: self.steps,
+            calls: self.calls,
+        }
     }
 
     /// Counts a call, and answers whether the plan makes it fail.

@@ -9,6 +9,7 @@ use Rattle.worm_memory.specs.declared.mark.Mark.{Mark}
 use Rattle.worm_memory.specs.Plans.{CommandPlan, stands_if_reached, is_called_for, last_changes, last_faults, last_foreign_writes, plan_of}
 use Rattle.worm_memory.specs.Worlds.{world}
 use Rattle.worm_memory.proofs.Accounts.{changes_append, faults_append, foreign_writes_append, none_yet}
+use Rattle.worm_memory.proofs.Running.{runs_yet}
 use Rattle.worm_memory.proofs.memory_device.MemoryDevice.begin.Goals as goal
 use Rattle.worm_memory.proofs.memory_device.MemoryDevice.begin.Goals.{After-begin}
 
@@ -33,6 +34,25 @@ invariant_of-self-clause-later c = omega (arith, faults_are c)
 
 pub invariant_of-self-clause-longer : goal.invariant_of-self-clause-longer
 invariant_of-self-clause-longer c = omega (arith, changes_are c)
+
+pub invariant_of-self-clause-ran : goal.invariant_of-self-clause-ran
+invariant_of-self-clause-ran c = λ is.
+    let d = c.args.self.now in
+    runs_yet (plan_of c.begin.new.self) c.push_reserved.new.self.items (record {
+      changes = d.changes.items;
+      made_in = d.made_in.items;
+      steps = c.begin.new.self.steps;
+      calls = c.begin.new.self.calls;
+      faults = d.faults;
+      foreign_writes = d.foreign_writes;
+    }) (record {
+      no_steps = c.begin.ensures.steps;
+      no_calls = c.begin.ensures.calls;
+      changes = omega (arith, changes_are c);
+      made_in = omega (arith, d.one_each, changes_are c);
+      faults = sym (faults_are c);
+      foreign_writes = sym (foreign_writes_are c);
+    })
 
 pub invariant_of-self-clause-none_failed : goal.invariant_of-self-clause-none_failed
 invariant_of-self-clause-none_failed c = λ is may. sym (faults_are c)
@@ -60,8 +80,8 @@ invariant_of-self-clause-named c = λ is.
     ap (λ n. list_all called (drop n device.changes.items)) all
     ∙ ap (list_all called) (drop-length device.changes.items)
 
-pub invariant_of-self-clause-made : goal.invariant_of-self-clause-made
-invariant_of-self-clause-made c = λ is.
+pub invariant_of-self-clause-stands : goal.invariant_of-self-clause-stands
+invariant_of-self-clause-stands c = λ is.
     let device = c.args.self.now in
     let calls = c.begin.new.self in
     ap (λ (p : CommandPlan). list_all (stands_if_reached calls.steps calls.calls (world device.changes.items).image) p.foreign)

@@ -4,6 +4,9 @@ use Rattle.worm_memory.specs.Plans.{AreWritesInside, CommandPlan}
 use Rattle.worm_memory.proofs.Accounts.{no_true, ordered_next}
 use Rattle.worm_memory.proofs.memory_device.MemoryDevice.count_call.Goals as goal
 
+pub invariant_of-self-clause-ran : goal.invariant_of-self-clause-ran
+invariant_of-self-clause-ran c = λ is. no_true c.args.self.now.by_plan is c.requires.apart
+
 pub invariant_of-self-clause-none_failed : goal.invariant_of-self-clause-none_failed
 invariant_of-self-clause-none_failed c = λ is. no_true c.args.self.now.by_plan is c.requires.apart
 
@@ -22,8 +25,8 @@ invariant_of-self-clause-most_written c = λ is. no_true c.args.self.now.by_plan
 pub invariant_of-self-clause-named : goal.invariant_of-self-clause-named
 invariant_of-self-clause-named c = λ is. no_true c.args.self.now.by_plan is c.requires.apart
 
-pub invariant_of-self-clause-made : goal.invariant_of-self-clause-made
-invariant_of-self-clause-made c = λ is. no_true c.args.self.now.by_plan is c.requires.apart
+pub invariant_of-self-clause-stands : goal.invariant_of-self-clause-stands
+invariant_of-self-clause-stands c = λ is. no_true c.args.self.now.by_plan is c.requires.apart
 
 pub invariant_of-self-clause-planned_inside : goal.invariant_of-self-clause-planned_inside
 invariant_of-self-clause-planned_inside c =

@@ -1,9 +1,12 @@
 -- Before the first call no call has failed, whatever is planned.
-use Rattle.std.proofs.Common.{◌≡◌, true, ap, sym, ◌∙◌, arith, List}
+use Rattle.std.proofs.Common.{◌≡◌, true, ap, sym, subst, ◌∙◌, arith, List}
+use Rattle.worm_memory.specs.Device.{memory_of}
+use Rattle.worm_memory.specs.Memory.{course_of}
+use Rattle.worm_memory.specs.Runs.{HasRun}
 use Rattle.worm_memory.specs.Plans.{CommandPlan, failures_reached, may_fail, must_fail}
 use Rattle.worm_memory.specs.declared.moment.Moment.{Moment}
 use Rattle.worm_memory.specs.declared.schedule.Schedule.{Schedule}
-use Rattle.worm_memory.proofs.Planning.{HasYetToCall, most_yet, some_yet, yet_to_call}
+use Rattle.worm_memory.proofs.Planning.{HasYetToCall, most_yet, ran_yet, some_yet, yet_to_call}
 use Rattle.worm_memory.proofs.memory_device.MemoryDevice.fail_at.Goals as goal
 use Rattle.worm_memory.proofs.memory_device.MemoryDevice.fail_at.Goals.{In-Ok}
 
@@ -19,6 +22,9 @@ planned c = let d = c.args.self.now.schedule in record {
 
 pub invariant_of-self-2-clause-backed : goal.invariant_of-self-2-clause-backed
 invariant_of-self-2-clause-backed c = λ is. c.args.self.now.backed (yet c is).by_plan
+
+pub invariant_of-self-2-clause-ran : goal.invariant_of-self-2-clause-ran
+invariant_of-self-2-clause-ran c = λ is. ran_yet c.args.self.now (yet c is) (planned c)
 
 pub invariant_of-self-2-clause-none_failed : goal.invariant_of-self-2-clause-none_failed
 invariant_of-self-2-clause-none_failed c = λ is may. (yet c is).faults
@@ -40,12 +46,17 @@ invariant_of-self-2-clause-most_written c = λ is few.
 pub invariant_of-self-2-clause-named : goal.invariant_of-self-2-clause-named
 invariant_of-self-2-clause-named c = λ is. c.args.self.now.named (yet c is).by_plan
 
-pub invariant_of-self-2-clause-made : goal.invariant_of-self-2-clause-made
-invariant_of-self-2-clause-made c = λ is. c.args.self.now.made (yet c is).by_plan
+pub invariant_of-self-2-clause-stands : goal.invariant_of-self-2-clause-stands
+invariant_of-self-2-clause-stands c = λ is. c.args.self.now.stands (yet c is).by_plan
 
 -- where there was no memory nothing is planned
 abbrev with_fails : Schedule → List Moment → CommandPlan
 with_fails d l = record { fails = l; stop = d.stop; foreign = d.foreign.items }
+
+pub invariant_of-self-clause-ran : goal.invariant_of-self-clause-ran
+invariant_of-self-clause-ran c = λ is. let d = c.args.self.now in
+    subst (λ l. ∥ HasRun (with_fails d.schedule l) d.marks.items (course_of (memory_of d)) ∥₁)
+    (sym c.in_default.ensures.items) (d.ran is)
 
 pub invariant_of-self-clause-none_failed : goal.invariant_of-self-clause-none_failed
 invariant_of-self-clause-none_failed c = λ is may. let d = c.args.self.now in d.none_failed is

@@ -40,7 +40,7 @@ fail-requires c =
     let device = c.args.self.now in
     record {
       apart = false_from_ne_true device.by_plan (λ is.
-          let one = some_blank device.cells.items c.args.at (omega (arith, c.requires))
+          let one = some_blank device.cells.items c.args.at (omega (arith, c.requires.inside))
           (device.holds c.args.at ∙ sym c.found.ensures ∙ c.in_default.is) in
           omega (arith, one, device.roomy (device.backed is), c.if-room-eq0.true, c.room.ensures));
     }

@@ -1,13 +1,16 @@
 -- Before the first call no call has failed, whatever is planned.
-use Rattle.std.proofs.Common.{arith, ◌≡◌, ◌++◌, ◌∷◌, [], drop, true, vec_len, sym, subst, ap, ◌∙◌}
+use Rattle.std.proofs.Common.{arith, List, ◌≡◌, ◌++◌, ◌∷◌, [], drop, true, vec_len, sym, subst, ap, ◌∙◌}
 use Rattle.std.specs.List.{count_by, list_all, list_any}
 use Rattle.worm_memory.specs.Plans.{AreWritesInside, is_due, stands_if_reached, is_called_for, last_changes}
 use Rattle.worm_memory.specs.Worlds.{world}
 use Rattle.worm_memory.specs.declared.moment.Timed.{Timed}
 use Rattle.worm_memory.proofs.Others.{inside_append}
 use Rattle.worm_memory.proofs.Following.{named_longer, none_come}
-use Rattle.worm_memory.specs.Plans.{CommandPlan}
-use Rattle.worm_memory.proofs.Planning.{HasYetToCall, most_yet, some_yet, yet_to_call}
+use Rattle.worm_memory.specs.Plans.{CommandPlan, plan_of}
+use Rattle.worm_memory.specs.Device.{memory_of}
+use Rattle.worm_memory.specs.Memory.{course_of}
+use Rattle.worm_memory.specs.Runs.{HasRun}
+use Rattle.worm_memory.proofs.Planning.{HasYetToCall, most_yet, ran_yet, some_yet, yet_to_call}
 use Rattle.worm_memory.proofs.memory_device.MemoryDevice.foreign_before.Goals as goal
 use Rattle.worm_memory.proofs.memory_device.MemoryDevice.foreign_before.Goals.{In-Ok}
 
@@ -23,6 +26,9 @@ planned c = let d = c.args.self.now.schedule in record {
 
 pub invariant_of-self-2-clause-backed : goal.invariant_of-self-2-clause-backed
 invariant_of-self-2-clause-backed c = λ is. c.args.self.now.backed (yet c is).by_plan
+
+pub invariant_of-self-2-clause-ran : goal.invariant_of-self-2-clause-ran
+invariant_of-self-2-clause-ran c = λ is. ran_yet c.args.self.now (yet c is) (planned c)
 
 pub invariant_of-self-2-clause-none_failed : goal.invariant_of-self-2-clause-none_failed
 invariant_of-self-2-clause-none_failed c = λ is may. (yet c is).faults
@@ -56,8 +62,8 @@ invariant_of-self-2-clause-named c = λ is.
     ∙ named_longer d.schedule.steps d.schedule.calls d.schedule.foreign.items (timed c ∷ [])
     (drop (last_changes d.marks.items) d.changes.items) (d.named (yet c is).by_plan)
 
-pub invariant_of-self-2-clause-made : goal.invariant_of-self-2-clause-made
-invariant_of-self-2-clause-made c = λ is.
+pub invariant_of-self-2-clause-stands : goal.invariant_of-self-2-clause-stands
+invariant_of-self-2-clause-stands c = λ is.
     let d = c.args.self.now in
     none_come d.schedule.steps d.schedule.calls (world d.changes.items).image c.push.new.self.items d.steps_fit
     (yet c is).calls
@@ -70,6 +76,12 @@ invariant_of-self-2-clause-planned_inside c =
     (inside_append (vec_len device.cells) device.schedule.foreign.items (timed c) device.planned_inside c.requires)
 
 -- where there was no memory nothing is planned
+pub invariant_of-self-clause-ran : goal.invariant_of-self-clause-ran
+invariant_of-self-clause-ran c = λ is.
+    let d = c.args.self.now in
+    subst (λ (l : List Timed). ∥ HasRun (record (plan_of d.schedule) { foreign = l }) d.marks.items
+    (course_of (memory_of d)) ∥₁) (sym c.in_default.ensures.items) (d.ran is)
+
 pub invariant_of-self-clause-none_written : goal.invariant_of-self-clause-none_written
 invariant_of-self-clause-none_written c = λ is may.
     let d = c.args.self.now in
@@ -88,11 +100,11 @@ invariant_of-self-clause-named c = λ is.
     ap (λ l. list_all (is_called_for d.schedule.steps d.schedule.calls l)
     (drop (last_changes d.marks.items) d.changes.items)) c.in_default.ensures.items ∙ d.named is
 
-pub invariant_of-self-clause-made : goal.invariant_of-self-clause-made
-invariant_of-self-clause-made c = λ is.
+pub invariant_of-self-clause-stands : goal.invariant_of-self-clause-stands
+invariant_of-self-clause-stands c = λ is.
     let d = c.args.self.now in
     ap (list_all (stands_if_reached d.schedule.steps d.schedule.calls (world d.changes.items).image))
-    c.in_default.ensures.items ∙ d.made is
+    c.in_default.ensures.items ∙ d.stands is
 
 pub invariant_of-self-clause-planned_inside : goal.invariant_of-self-clause-planned_inside
 invariant_of-self-clause-planned_inside c =

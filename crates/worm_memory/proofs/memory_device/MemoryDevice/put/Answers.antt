@@ -8,8 +8,14 @@ use Rattle.worm_memory.specs.Unsure.{unsure_of}
 use Rattle.worm_memory.specs.Worlds.{blank, foreign_writes_in, world, AreChanges, HasBecome}
 use Rattle.worm_memory.proofs.Worlds.{changes_append, put_is_change}
 use Rattle.worm_memory.proofs.Cells.{holds_put, unsure_put}
-use Rattle.worm_memory.specs.Plans.{stands_if_reached, is_called_for, last_changes}
-use Rattle.worm_memory.specs.Memory.{counted_with}
+use Rattle.worm_memory.specs.Plans.{stands_if_reached, is_called_for, last_changes, plan_of}
+use Rattle.worm_memory.specs.Device.{memory_of}
+use Rattle.worm_memory.specs.Memory.{call_of, counted_with, course_of}
+use Rattle.worm_memory.specs.Runs.{Course, HasRun}
+use Rattle.worm_memory.specs.declared.change.Change.{Change}
+use Rattle.worm_memory.specs.declared.change.Change.TheVariants.{Wrote}
+use Rattle.worm_memory.specs.declared.mark.CallNumbers.{CallNumbers}
+use Rattle.worm_memory.proofs.Running.{wrote_in_step}
 use Rattle.worm_memory.proofs.Counted.{one_counted}
 use Rattle.worm_memory.proofs.Worlds.{Adds}
 use Rattle.worm_memory.proofs.Following.{called_append, made_append}
@@ -62,6 +68,26 @@ invariant_of-self-clause-counted c =
     ∙ one_counted device.changes.items c.args.change (omega arith)
     ∙ sym (ap foreign_writes_in c.push_reserved.ensures.items)
 
+-- where the command goes by its plan, a step of it has written
+pub invariant_of-self-clause-ran : goal.invariant_of-self-clause-ran
+invariant_of-self-clause-ran c = λ is.
+    let d = c.args.self.now in
+    let course : List Change → List CallNumbers → ℕ → Course = λ changes made_in writes.
+    record (course_of (memory_of d)) { changes = changes; made_in = made_in; foreign_writes = writes } in
+    let run = λ (c : Course). ∥ HasRun (plan_of d.schedule) d.marks.items c ∥₁ in
+    let same : c.counted_with-self.result ≡ d.foreign_writes =
+    c.counted_with-self.ensures.counts ∙ ap (λ change. counted_with change d.foreign_writes) (c.requires.ours is) in
+    let made : c.push_reserved-3.new.self.items ≡ d.made_in.items ++ call_of (memory_of d) ∷ [] =
+    c.push_reserved-3.ensures.items ∙ ap (λ (n : CallNumbers). d.made_in.items ++ n ∷ []) c.numbers.ensures in
+    let changes : c.push_reserved.new.self.items ≡ d.changes.items ++ Wrote c.args.at c.args.value ∷ [] =
+    c.push_reserved.ensures.items ∙ ap (λ change. d.changes.items ++ change ∷ []) (c.requires.ours is) in
+    subst (λ l. run (course l c.push_reserved-3.new.self.items c.counted_with-self.result)) (sym changes)
+    (subst (λ l. run (course (d.changes.items ++ Wrote c.args.at c.args.value ∷ []) l c.counted_with-self.result))
+    (sym made)
+    (subst (λ n. run (course (d.changes.items ++ Wrote c.args.at c.args.value ∷ [])
+    (d.made_in.items ++ call_of (memory_of d) ∷ []) n)) (sym same)
+    (wrote_in_step (memory_of d) c.args.at c.args.value (c.requires.in_step is))))
+
 -- where the command goes by its plan, it is not
 pub invariant_of-self-clause-none_written : goal.invariant_of-self-clause-none_written
 invariant_of-self-clause-none_written c = λ is may.
@@ -86,10 +112,10 @@ invariant_of-self-clause-named c = λ is.
     (d.named is)
     (ap called (c.requires.ours is))
 
-pub invariant_of-self-clause-made : goal.invariant_of-self-clause-made
-invariant_of-self-clause-made c = λ is.
+pub invariant_of-self-clause-stands : goal.invariant_of-self-clause-stands
+invariant_of-self-clause-stands c = λ is.
     let d = c.args.self.now in
     ap (λ l. list_all (stands_if_reached d.schedule.steps d.schedule.calls (world l).image) d.schedule.foreign.items)
     c.push_reserved.ensures.items
     ∙ made_append d.schedule.steps d.schedule.calls d.schedule.foreign.items d.changes.items c.args.change
-    (subst Adds (sym (c.requires.ours is)) tt) (d.made is)
+    (subst Adds (sym (c.requires.ours is)) tt) (d.stands is)

@@ -1,5 +1,9 @@
 -- The marks stay.
-use Rattle.std.proofs.Common.{◌≡◌, ap, sym, ◌∙◌, drop, arith}
+use Rattle.std.proofs.Common.{◌≡◌, ap, sym, subst, ◌∙◌, drop, arith}
+use Rattle.worm_memory.specs.Device.{memory_of}
+use Rattle.worm_memory.specs.Memory.{course_of}
+use Rattle.worm_memory.specs.Plans.{plan_of}
+use Rattle.worm_memory.specs.Runs.{HasRun}
 use Rattle.std.specs.List.{list_all}
 use Rattle.worm_memory.specs.Plans.{is_called_for, last_changes, last_faults, last_foreign_writes}
 use Rattle.worm_memory.proofs.memory_device.MemoryDevice.reserve_mark.Goals as goal
@@ -20,6 +24,12 @@ invariant_of-self-clause-later c = omega (arith, faults_are c, c.args.self.now.l
 
 pub invariant_of-self-clause-longer : goal.invariant_of-self-clause-longer
 invariant_of-self-clause-longer c = omega (arith, changes_are c, c.args.self.now.longer)
+
+pub invariant_of-self-clause-ran : goal.invariant_of-self-clause-ran
+invariant_of-self-clause-ran c = λ is.
+    let d = c.args.self.now in
+    subst (λ marks. ∥ HasRun (plan_of d.schedule) marks (course_of (memory_of d)) ∥₁) (sym c.reserve.ensures.items)
+    (d.ran is)
 
 pub invariant_of-self-clause-none_failed : goal.invariant_of-self-clause-none_failed
 invariant_of-self-clause-none_failed c = λ is may. c.args.self.now.none_failed is may ∙ sym (faults_are c)
