@@ -36,7 +36,7 @@ use Rattle.plan_writer.proofs.PutFrom.{volume_2}
 use Rattle.ingest_engine.specs.Formats.{FormatEnds}
 use Rattle.jump_insertion.specs.Evidence.{IsPastStamps}
 use Rattle.ingest_plan.specs.Planning.{IsLater}
-use Rattle.ingest_engine.specs.Ingesting.{HasFullPath, HasLaterStamp, HasNoRoom, HasNoSlot, HasFreeSlot, IngestEnds, IsIngestEvidence, IsIdentifierTaken, IsTooMany, CheckStampEnds, TakesNoSuchStamp, by_plan, by_settling, in_index}
+use Rattle.ingest_engine.specs.Ingesting.{HasFullPath, HasLaterStamp, HasNoRoom, HasNoSlot, HasFreeSlot, IngestEnds, IsIngestEvidence, IsIdentifierTaken, IsTooMany, CheckStampEnds, TakesNoSuchStamp, among_stamps, by_plan, by_settling, in_index}
 use Rattle.ingest_engine.specs.Stamps.{IsStampBelow}
 use Rattle.ingest_engine.proofs.Named.{is_horizon, slot_still}
 use Rattle.ingest_engine.proofs.CrashedIngests.{ready_layout, settled_unused}
@@ -190,7 +190,8 @@ module _ {id : List ℕ} {stamp : Option ℕ} {body : List ℕ} {g : Layout} {sl
   untouched e (by_settling settles found) = settling_named old new e device begins.tells settles
       begins.alone begins.steady
   untouched e (by_plan way) = behind_unbroken way.ready (slot_still way begins.alone) way.found.licensed
-  untouched e (in_index r slot rule licensed) = behind_unbroken r slot licensed
+  untouched e (among_stamps r slot given rule licensed) = behind_unbroken r slot licensed
+  untouched e (in_index r slot past rule licensed) = behind_unbroken r slot licensed
 
   volume_now : (called : Called old new) → IsVolume new.cells new.image g
   volume_now called = subst (λ (c : ℕ). IsVolume c new.image g) (sym called.cells)

@@ -8,7 +8,7 @@ use Rattle.worm_device.specs.Counts.{IsStill, Rose}
 use Rattle.worm_device.specs.State.{DeviceState}
 use Rattle.worm_memory.specs.Memory.{Memory, device_of}
 use Rattle.commit_record.specs.Licences.{IsLicensed}
-use Rattle.ingest_engine.specs.Ingesting.{IsIngestEvidence, by_plan, by_settling, in_index}
+use Rattle.ingest_engine.specs.Ingesting.{IsIngestEvidence, among_stamps, by_plan, by_settling, in_index}
 use Rattle.record_query.specs.LookingUp.{LookUpEnds}
 use Rattle.volume_audit.proofs.Comes.{licensed}
 use Rattle.hostile_replay.specs.Headline.{IsEvident, TamperingIsEvident}
@@ -46,7 +46,8 @@ named_licensed : {id : List ℕ} {stamp : Option ℕ} {body : List ℕ} {old new
     → IsIngestEvidence id stamp body old new e → IsLicensed old new e
 named_licensed (by_settling settles found) = found.licensed
 named_licensed (by_plan way) = way.found.licensed
-named_licensed (in_index ready slot rule licensed) = licensed
+named_licensed (among_stamps ready slot given rule licensed) = licensed
+named_licensed (in_index ready slot past rule licensed) = licensed
 
 -- the licence speaks of the device as the command began, which stands as before
 at_entry : (plan : Schedule) (old new : Memory) (e : Evidence) → IsLicensed (device_of (begun_with plan old)) (device_of new) e

@@ -77,7 +77,7 @@ document_broken {cells} {g} {image} {n} {rule} {cell} volume named at d none =
     }
 
 -- cells that are no state name one of the first three rules
-state_rule : {g : Layout} {before after : Image} {n rule cell : ℕ} → IsNoState g before after n rule cell
+pub state_rule : {g : Layout} {before after : Image} {n rule cell : ℕ} → IsNoState g before after n rule cell
     → (rule ≡ RESERVE_CELL) ⊎ (rule ≡ OUTCOME_CELL) ⊎ (rule ≡ DONE_CELL)
 state_rule (reserves_none r c never) = inl r
 state_rule (ends_unreserved r c blank) = inr (inl r)

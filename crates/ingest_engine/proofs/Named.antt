@@ -25,8 +25,9 @@ use Rattle.plan_writer.specs.PuttingPlans.{AsksForBlank, IsFoundByPlan, IsPlanRu
 use Rattle.plan_writer.specs.declared.plan.Plan.{Plan}
 use Rattle.plan_writer.proofs.PutFrom.{called, ends_2, free_2, volume_2}
 use Rattle.ingest_plan.specs.Planning.{cut_at}
-use Rattle.ingest_engine.specs.Indexing.{IsFoundOnWay, IsPathRule}
-use Rattle.ingest_engine.specs.Ingesting.{HasFreeSlot, IsInTheWay, IsLogRule, IsIngestEvidence, IsPlanFor, by_plan, in_index, need_with}
+use Rattle.commit_record.specs.Licences.{IsLicensed}
+use Rattle.ingest_engine.specs.Indexing.{IsFoundInOrder, IsFoundOnWay}
+use Rattle.ingest_engine.specs.Ingesting.{HasFreeSlot, IsInTheWay, IsLogRule, IsIngestEvidence, IsPlanFor, among_stamps, by_plan, in_index, need_with}
 use Rattle.ingest_engine.proofs.FullLogs.{has_slot}
 use Rattle.ingest_engine.proofs.Suited.{copies_of, entry}
 
@@ -49,20 +50,26 @@ module _ {old new : DeviceState} (r : Ready) (has : HasSettled old new r) (tells
     ends = ends_2 r has tells;
   }
 
+  -- what was found on the way is licensed
+  licensed : {IsLookedAt : ℕ → Type 0} (e : Evidence) → IsFoundOnWay IsLookedAt r has.settled new e
+      → IsLicensed old new e
+  licensed e found = record {
+    stands = found.stands;
+    layout = r.volume.geometry;
+    volume = volume_2 r has tells;
+    place = found.place;
+    broken = λ still. found.broken (still_second has.settles.called.foreign_writes has.looked.foreign_writes still)
+        (volume_2 r has tells) (is_horizon still) (is_edge still);
+  }
+
   module _ {stamp : Option ℕ} (takes : IsStampFor r.volume.geometry stamp) (slot : r.horizon < r.volume.geometry.slots) where
-    -- what was found on the way is named
-    pub named_on_way : {id body : List ℕ} (e : Evidence)
-        → IsFoundOnWay (IsPathRule r id body has.settled new) r has.settled new e
+    -- and named, in its order
+    pub named_on_way : {id body : List ℕ} (e : Evidence) → IsFoundInOrder r id stamp body has.settled new e
         → IsIngestEvidence id stamp body old new e
-    named_on_way e found =
-        in_index r (has_slot r has takes slot) found.rule (record {
-          stands = found.stands;
-          layout = r.volume.geometry;
-          volume = volume_2 r has tells;
-          place = found.place;
-          broken = λ still. found.broken (still_second has.settles.called.foreign_writes has.looked.foreign_writes still)
-              (volume_2 r has tells) (is_horizon still) (is_edge still);
-        })
+    named_on_way e (inl found) =
+        among_stamps r (has_slot r has takes slot) found.0 found.1.rule (licensed e found.1)
+    named_on_way e (inr found) =
+        in_index r (has_slot r has takes slot) found.0 found.1.rule (licensed e found.1)
 
 -- a blank cell is blank in what stands before the edge
 cut_blank : (edge : ℕ) (image : Image) (cell : ℕ) → image cell ≡ None → cut_at edge image cell ≡ None

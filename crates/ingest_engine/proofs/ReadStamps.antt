@@ -5,11 +5,13 @@ use Rattle.std.proofs.lemmas.Bool.{cases_lt}
 use Rattle.std.proofs.lemmas.Option.{none-some}
 use Rattle.cell_types.specs.Layout.{Layout, spare_at}
 use Rattle.cell_types.specs.declared.record_cell.RecordCell.TheVariants.{Stamp}
+use Rattle.cell_types.specs.declared.refusal.Evidence.{Evidence}
 use Rattle.cell_types.specs.declared.refusal.Fault.{Fault}
 use Rattle.cell_types.specs.declared.refusal.Fault.TheVariants as faults
 use Rattle.cell_types.specs.declared.refusal.Refusal.{Refusal}
 use Rattle.cell_types.specs.declared.refusal.Refusal.TheVariants.{StampTooEarly}
 use Rattle.cell_types.specs.Refusals.{refusal_of_fault}
+use Rattle.tamper_rules.specs.declared.numbers.TheConstants.{DONE_CELL, OUTCOME_CELL, RESERVE_CELL}
 use Rattle.volume_meaning.specs.Slots.{HasStamp, IsDoneSlot}
 use Rattle.volume_meaning.proofs.Extending.{done_slot_on, holds_on}
 use Rattle.volume_meaning.proofs.Holding.{one_record_holds}
@@ -19,13 +21,13 @@ use Rattle.worm_device.proofs.Counting.{still_second}
 use Rattle.worm_device.proofs.Elapsing.{called_self}
 use Rattle.worm_device.proofs.Resting.{rests_of, viewed_self, viewed_then}
 use Rattle.commit_record.specs.Stamps.{IsStampOrNone, ReadsStamp}
-use Rattle.document_store.specs.Looks.{LookFails, PartEnds}
+use Rattle.document_store.specs.Looks.{LookFails, NamesDocument, PartEnds, of_document, of_state}
 use Rattle.document_store.specs.declared.part.Part.{Part}
 use Rattle.identifier_lookup.specs.Walks.{WalkFails}
-use Rattle.identifier_lookup.proofs.Licence.{names_licensed}
+use Rattle.identifier_lookup.proofs.Licence.{names_licensed, state_rule}
 use Rattle.recovery_engine.specs.declared.settling.Ready.{Ready}
 use Rattle.ingest_engine.specs.Indexing.{LooksPast, PastEnds, ReadsOnDevice}
-use Rattle.ingest_engine.specs.Stamps.{AddsStamp, AreUpTo, IsOneBelow, IsStampUpTo, PastLast, ReadsStamps, GreatestStampEnds, StampsSoFar}
+use Rattle.ingest_engine.specs.Stamps.{AddsStamp, AreUpTo, IsOneBelow, IsSlotRule, IsStampUpTo, NamesSlot, PastLast, ReadsStamps, GreatestStampEnds, StampsSoFar}
 
 -- what is up to one is up to another that this one is up to
 up_to_then : (first mid last : Option ℕ) → IsStampUpTo first mid → IsStampUpTo mid last → IsStampUpTo first last
@@ -63,6 +65,25 @@ fails_since g first second same (faults.Tampered e) fails horizon edge =
       },
     )
 
+-- and it names a cell by the same rules
+names_since : {old mid : ViewState} → Viewed old mid → (fault : Fault) → NamesSlot mid fault → NamesSlot old fault
+names_since first faults.Failed names = tt
+names_since first (faults.Tampered e) names = λ tells. names (subst IsTrue (sym first.called.tells) tells)
+
+-- evidence of a look at a slot is by a rule of its cells or of its document
+slot_rule : {g : Layout} {n : ℕ} {old new : ViewState} {e : Evidence} → NamesDocument g n old new e → IsSlotRule e.rule
+slot_rule {e = e} (of_state out) = with_state e.rule (state_rule out.seen) where
+  with_state : (rule : ℕ) → (rule ≡ RESERVE_CELL) ⊎ (rule ≡ OUTCOME_CELL) ⊎ (rule ≡ DONE_CELL) → IsSlotRule rule
+  with_state rule (inl reserve) = inl reserve
+  with_state rule (inr (inl outcome)) = inr (inl outcome)
+  with_state rule (inr (inr done)) = inr (inr (inl done))
+slot_rule (of_document broken) = inr (inr (inr broken.rule))
+
+names_slot : (g : Layout) (n : ℕ) (old new : ViewState) → (fault : Fault) → LookFails g n old new fault
+    → NamesSlot old fault
+names_slot g n old new faults.Failed fails = tt
+names_slot g n old new (faults.Tampered e) fails = λ tells. slot_rule (fails.2 tells)
+
 -- a look at a slot that fails
 pub look_fails : (g : Layout) (n : ℕ) {old new : ViewState} → Viewed old new → (fault : Fault) → LookFails g n old new fault
     → (horizon edge : ℕ) → WalkFails g horizon edge old new fault
@@ -97,7 +118,8 @@ module _ (g : Layout) (n : ℕ) (greatest : Option ℕ) where
   -- no look was to be had at it
   pub unasked : {old new : ViewState} → Viewed old new → (fault : Fault) → PartEnds g n old new (Err fault)
       → AddsStamp g n greatest old new (Err fault)
-  unasked viewed fault ends = record { viewed = viewed; ends = look_fails g n viewed fault ends }
+  unasked viewed fault ends =
+      record { viewed = viewed; ends = (names_slot g n _ _ fault ends, look_fails g n viewed fault ends) }
 
   module _ {old mid new : ViewState} (part : Part) (first : Viewed old mid) (is : PartEnds g n old mid (Ok (Some part)))
       (stamp last : Option ℕ) (reads : ReadsStamp n mid new (Ok stamp)) (up : IsStampUpTo greatest last)
@@ -200,7 +222,10 @@ module _ (g : Layout) (n : ℕ) where
     pub stopped : (fault : Fault) → AddsStamp g slot greatest now next (Err fault) → ReadsStamps g n old next (Err fault)
     stopped fault adds = record {
       viewed = viewed_then so.viewed adds.viewed;
-      ends = fails_since g so.viewed adds.viewed so.faults fault adds.ends;
+      ends = (
+        names_since so.viewed fault adds.ends.0,
+        fails_since g so.viewed adds.viewed so.faults fault adds.ends.1,
+      );
     }
 
   pub all_read : {from : ℕ} {greatest : Option ℕ} {old now : ViewState} → StampsSoFar g from n greatest old now
@@ -229,13 +254,16 @@ device_reads r {entry} {new} {lent} {back} viewed result ends = record {
         → GreatestStampEnds r.volume.geometry r.horizon (seen_directly entry 0) (seen_directly new 0) result
     by_any (Ok last) h = h
     by_any (Err faults.Failed) h = h
-    by_any (Err (faults.Tampered e)) h = λ horizon edge.
-        let fails = h horizon edge in (
-          fails.0,
-          fails.1,
-          λ tells. let seen = fails.2 tells in
-              record { rule = seen.rule; stands = seen.stands; broken = seen.broken },
-        )
+    by_any (Err (faults.Tampered e)) h = (
+      h.0,
+      λ horizon edge.
+          let fails = h.1 horizon edge in (
+            fails.0,
+            fails.1,
+            λ tells. let seen = fails.2 tells in
+                record { rule = seen.rule; stands = seen.stands; broken = seen.broken },
+          ),
+    )
 
 -- no stamp is given, and nothing is read
 pub none_given : (r : Ready) (entry : DeviceState) → LooksPast r None entry entry (Ok tt)
@@ -251,15 +279,18 @@ pub not_read : (r : Ready) (given : ℕ) {entry new : DeviceState} (fault : Faul
 not_read r given faults.Failed reads = record {
   called = reads.called;
   quiet = reads.quiet;
-  ends = reads.ends r.horizon r.edge;
+  ends = reads.ends.1 r.horizon r.edge;
 }
 not_read r given (faults.Tampered e) reads = record {
   called = reads.called;
   quiet = reads.quiet;
-  ends = λ tells.
-      let fails = reads.ends r.horizon r.edge in
-      let seen = fails.2 tells in
-      record { rule = seen.rule; stands = seen.stands; place = fails.0; broken = seen.broken };
+  ends = (
+    record { seconds = given; is = refl },
+    λ tells.
+        let fails = reads.ends.1 r.horizon r.edge in
+        let seen = fails.2 tells in
+        record { rule = reads.ends.0 tells; stands = seen.stands; place = fails.0; broken = seen.broken },
+  );
 }
 
 -- and where they were, the stamp is past them or is not

@@ -138,9 +138,7 @@ not_past r id stamp body entry new refusal looks =
         → PlanForEnds r id stamp body entry new (Err refusal)
     why (StampTooEarly given last) h = h
     why DeviceFault h = h
-    why (Tampered e) h = λ tells.
-        let found = h tells in
-        record { rule = inl found.rule; stands = found.stands; place = found.place; broken = found.broken }
+    why (Tampered e) h = λ tells. inl (h.0, h.1 tells)
     why refusal h = absurd h
 
 -- the path has no end, or was not walked
@@ -155,8 +153,10 @@ path_refused r id stamp body entry new refusal past path =
     why PathFull h = (past, h)
     why DeviceFault h = h
     why (Tampered e) h = λ tells.
-        let found = h tells in
-        record { rule = inl found.rule; stands = found.stands; place = found.place; broken = found.broken }
+        let found = h tells in inr (
+          past,
+          record { rule = inl found.rule; stands = found.stands; place = found.place; broken = found.broken },
+        )
     why refusal h = absurd h
 
 module _ (r : Ready) (id : List ℕ) (stamp : Option ℕ) (body : List ℕ) (entry walked new : DeviceState) (end : PathEnd)
@@ -188,24 +188,27 @@ module _ (r : Ready) (id : List ℕ) (stamp : Option ℕ) (body : List ℕ) (ent
           let named = h (told tells) in
           let led : IsLedWithin r.volume.geometry new.image end.level.led_by =
           led_within_on r.volume.geometry end.level.led_by plans.called.image (path.ends.4 tells).led_within in
-          record {
-            rule = inr (
-              named.rule,
-              record {
-                walked = walked;
-                place = end.place;
-                level = end.level;
-                ends = record { called = path.called; path = path.ends; looked = plans.called; quiet = plans.quiet };
-              },
-              named.postings,
-            );
-            stands = named.stands;
-            place = named.place led;
-            broken = λ still volume horizon edge. named.broken led
-                (still_second path.called.foreign_writes plans.called.foreign_writes still) volume horizon
-                (subst (λ (i : Image). IsLater r.volume.geometry i r.horizon stamp)
-                (sym (same_image (quiet_then path.called plans.called path.quiet plans.quiet still))) (past tells)) edge;
-          }
+          inr (
+            past,
+            record {
+              rule = inr (
+                named.rule,
+                record {
+                  walked = walked;
+                  place = end.place;
+                  level = end.level;
+                  ends = record { called = path.called; path = path.ends; looked = plans.called; quiet = plans.quiet };
+                },
+                named.postings,
+              );
+              stands = named.stands;
+              place = named.place led;
+              broken = λ still volume horizon edge. named.broken led
+                  (still_second path.called.foreign_writes plans.called.foreign_writes still) volume horizon
+                  (subst (λ (i : Image). IsLater r.volume.geometry i r.horizon stamp)
+                  (sym (same_image (quiet_then path.called plans.called path.quiet plans.quiet still))) (past tells)) edge;
+            },
+          )
       why DeviceFault h = omega (arith, h, path.called.faults)
       why NoMemory h = tt
       why refusal h = absurd h

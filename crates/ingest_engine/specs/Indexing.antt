@@ -23,7 +23,7 @@ use Rattle.identifier_lookup.specs.declared.answers.Walk.{Walk}
 use Rattle.identifier_lookup.specs.declared.answers.Walk.TheVariants as walks
 use Rattle.ingest_plan.specs.Planning.{IsGrowthRule, IsLater, IsPlanned}
 use Rattle.ingest_plan.specs.declared.plan.PlannedIndex.{PlannedIndex}
-use Rattle.ingest_engine.specs.Stamps.{AreUpTo, IsStampBelow, GreatestStampEnds}
+use Rattle.ingest_engine.specs.Stamps.{AreUpTo, IsSlotRule, IsStampBelow, GreatestStampEnds}
 use Rattle.ingest_engine.specs.declared.indexing.PathEnd.{PathEnd}
 
 -- a walk along the identifier's path on the device answers so
@@ -45,6 +45,11 @@ pub record HasPathEnd (r : Ready) (id : List ℕ) (entry new : DeviceState) : Ty
   pub place : Open
   pub level : Level
   pub ends : HasWalked r id place level entry walked new
+
+-- a stamp is given
+pub record IsGiven (stamp : Option ℕ) : Type 0 where
+  pub seconds : ℕ
+  pub is : stamp ≡ Some seconds
 
 -- the stamp that is given, if one is, is past those of the done slots below the horizon
 abbrev pub IsStampPast : Ready → Option ℕ → DeviceState → Type 0
@@ -72,6 +77,14 @@ pub record IsFoundOnWay (IsLookedAt : ℕ → Type 0) (r : Ready) (entry new : D
   pub broken : IsStill entry.foreign_writes new.foreign_writes → IsVolume new.cells new.image r.volume.geometry
       → IsHorizon r.volume.geometry new.image new.image r.horizon
       → IsEdge r.volume.geometry new.image new.image r.edge → IsBroken new.cells new.image e.rule e.cell
+
+-- What was found in this order: where a stamp is given, the slots are looked at first, for theirs; and only where the stamp
+-- that is given is past them, what is named on the path and in the lists comes.
+abbrev pub IsFoundInOrder
+    : Ready → List ℕ → Option ℕ → List ℕ → DeviceState → DeviceState → Evidence → Type 0
+IsFoundInOrder r id stamp body entry new e =
+    (IsGiven stamp × IsFoundOnWay IsSlotRule r entry new e)
+    ⊎ (IsStampPast r stamp entry × IsFoundOnWay (IsPathRule r id body entry new) r entry new e)
 
 -- what a walk along the identifier's path on the device does: it changes nothing
 pub record WalksDevice (r : Ready) (id : List ℕ) (entry new : DeviceState) (result : Result Walk Fault) : Type 0 where
@@ -106,7 +119,8 @@ abbrev pub PastEnds : Ready → Option ℕ → DeviceState → DeviceState → R
 PastEnds r stamp entry new (Ok u) = (new.faults ≡ entry.faults) × IsStampPast r stamp entry
 PastEnds r stamp entry new (Err (StampTooEarly given last)) = IsTooEarly r stamp given last entry new
 PastEnds r stamp entry new (Err DeviceFault) = Rose entry.faults new.faults
-PastEnds r stamp entry new (Err (Tampered e)) = IsTrue entry.tells → IsFoundOnWay IsWalkRule r entry new e
+PastEnds r stamp entry new (Err (Tampered e)) =
+    IsGiven stamp × (IsTrue entry.tells → IsFoundOnWay IsSlotRule r entry new e)
 PastEnds r stamp entry new (Err refusal) = ⊥
 
 -- such a look changes nothing
@@ -147,7 +161,7 @@ PlanForEnds r id stamp body entry new (Err PathFull) = IsStampPast r stamp entry
 PlanForEnds r id stamp body entry new (Err (TooManyTerms list count)) = HasTooMany r id stamp body list count entry new
 PlanForEnds r id stamp body entry new (Err DeviceFault) = Rose entry.faults new.faults
 PlanForEnds r id stamp body entry new (Err (Tampered e)) =
-    IsTrue entry.tells → IsFoundOnWay (IsPathRule r id body entry new) r entry new e
+    IsTrue entry.tells → IsFoundInOrder r id stamp body entry new e
 PlanForEnds r id stamp body entry new (Err NoMemory) = ⊤
 PlanForEnds r id stamp body entry new (Err refusal) = ⊥
 

@@ -26,7 +26,8 @@ use Rattle.plan_writer.specs.PuttingPlans.{PutsPlan}
 use Rattle.plan_writer.specs.declared.plan.Plan.{Plan}
 use Rattle.ingest_plan.specs.Planning.{IsLater}
 use Rattle.ingest_plan.specs.declared.plan.PlannedIndex.{PlannedIndex}
-use Rattle.ingest_engine.specs.Indexing.{HasIndex, HasTooMany, IsStampPast, IsPathRule, IsTooEarly}
+use Rattle.ingest_engine.specs.Indexing.{HasIndex, HasTooMany, IsGiven, IsPathRule, IsStampPast, IsTooEarly}
+use Rattle.ingest_engine.specs.Stamps.{IsSlotRule}
 
 -- The plan is of this document, with this stamp, and of its index, which was planned after settling: it has the index's
 -- blocks, and copies of its cells are the journal.
@@ -211,14 +212,17 @@ pub record IsInTheWay (id : List ℕ) (stamp : Option ℕ) (body : List ℕ) (ol
     pub since : Called looked new
     pub unput : IsStill old.foreign_writes new.foreign_writes → IsUnchanged looked.image new.image
 
--- How tampering is named: while the volume was settled; in the way of the plan; or on the way through the log for the
--- stamps of its slots and through the index, where the volume was settled and had a free slot, and was only looked at.
+-- How tampering is named: while the volume was settled; in the way of the plan; or, where the volume was settled and had a
+-- free slot, and was only looked at, in the slots, which are looked at for their stamps where a stamp is given; or on the
+-- way through the index, once the stamp, if one is given, is past all others.
 pub data IsIngestEvidence (id : List ℕ) (stamp : Option ℕ) (body : List ℕ) (old new : DeviceState)
     (e : Evidence) : Type 0 where
   by_settling : Settles old new (Err (Tampered e)) → IsFoundBroken IsSettlingRule old new e
       → IsIngestEvidence id stamp body old new e
   by_plan : IsInTheWay id stamp body old new e → IsIngestEvidence id stamp body old new e
-  in_index : (ready : Ready) (slot : HasFreeSlot stamp old new ready)
+  among_stamps : (ready : Ready) → HasFreeSlot stamp old new ready → IsGiven stamp → IsSlotRule e.rule
+      → IsLicensed old new e → IsIngestEvidence id stamp body old new e
+  in_index : (ready : Ready) (slot : HasFreeSlot stamp old new ready) → IsStampPast ready stamp slot.settled.settled
       → IsPathRule ready id body slot.settled.settled new e.rule
       → IsLicensed old new e → IsIngestEvidence id stamp body old new e
 

@@ -3,9 +3,11 @@ use Rattle.std.specs.Prelude.{◌≡◌, ◌<◌, ◌≤◌, ◌+◌, ◌⊎◌,
 use Rattle.cell_types.specs.Image.{Image}
 use Rattle.cell_types.specs.Layout.{Layout}
 use Rattle.cell_types.specs.declared.refusal.Fault.{Fault}
+use Rattle.cell_types.specs.declared.refusal.Fault.TheVariants as faults
 use Rattle.cell_types.specs.declared.refusal.Refusal.{Refusal}
 use Rattle.cell_types.specs.declared.refusal.Refusal.TheVariants.{StampTooEarly}
 use Rattle.volume_meaning.specs.Slots.{HasStamp, IsDoneSlot}
+use Rattle.tamper_rules.specs.declared.numbers.TheConstants.{BROKEN_DOCUMENT, DONE_CELL, OUTCOME_CELL, RESERVE_CELL}
 use Rattle.worm_device.specs.Views.{ViewState, Viewed}
 use Rattle.identifier_lookup.specs.Walks.{WalkFails}
 
@@ -44,13 +46,24 @@ GreatestStampsAreOne =
     (g : Layout) (image : Image) (n one other : ℕ) → IsGreatestStamp g image n one → IsGreatestStamp g image n other
     → one ≡ other
 
+-- the rules of a slot's own cells and of its document
+abbrev pub IsSlotRule : ℕ → Type 0
+IsSlotRule number =
+    (number ≡ RESERVE_CELL) ⊎ (number ≡ OUTCOME_CELL) ⊎ (number ≡ DONE_CELL) ⊎ (number ≡ BROKEN_DOCUMENT)
+
+-- where a look at a slot names a cell, this is by one of these rules
+abbrev pub NamesSlot : ViewState → Fault → Type 0
+NamesSlot old faults.Failed = ⊤
+NamesSlot old (faults.Tampered e) = IsTrue old.base.tells → IsSlotRule e.rule
+
 -- How reading the stamps of the done slots below n may end, and why. The greatest is told: one of them has it, and none had
 -- a greater one.
 abbrev pub GreatestStampEnds : Layout → ℕ → ViewState → ViewState → Result (Option ℕ) Fault → Type 0
 GreatestStampEnds g n old new (Ok last) =
     (new.base.faults ≡ old.base.faults)
     × (IsTrue old.base.tells → AreUpTo g old.image 0 n last × IsOneBelow g new.image n last)
-GreatestStampEnds g n old new (Err fault) = (horizon edge : ℕ) → WalkFails g horizon edge old new fault
+GreatestStampEnds g n old new (Err fault) =
+    NamesSlot old fault × ((horizon edge : ℕ) → WalkFails g horizon edge old new fault)
 
 pub record ReadsStamps (g : Layout) (n : ℕ) (old new : ViewState) (result : Result (Option ℕ) Fault) : Type 0 where
   pub viewed : Viewed old new
@@ -62,7 +75,8 @@ AddStampEnds g n greatest old new (Ok last) =
     (new.base.faults ≡ old.base.faults) × IsStampUpTo greatest last
     × (IsTrue old.base.tells → AreUpTo g old.image n (n + 1) last
     × ((last ≡ greatest) ⊎ ((seconds : ℕ) × (last ≡ Some seconds) × IsDoneSlot g new.image n × HasStamp new.image n seconds)))
-AddStampEnds g n greatest old new (Err fault) = (horizon edge : ℕ) → WalkFails g horizon edge old new fault
+AddStampEnds g n greatest old new (Err fault) =
+    NamesSlot old fault × ((horizon edge : ℕ) → WalkFails g horizon edge old new fault)
 
 pub record AddsStamp (g : Layout) (n : ℕ) (greatest : Option ℕ) (old new : ViewState) (result : Result (Option ℕ) Fault)
     : Type 0 where
