@@ -31,7 +31,7 @@ use Rattle.jump_index.proofs.Telling.{told, told_before}
 use Rattle.posting_list.specs.Searches.{IsFalsePosting, head_of, within}
 use Rattle.posting_list.specs.declared.reach.Reach.{Reach}
 use Rattle.posting_list.proofs.Evidence.{false_named}
-use Rattle.time_index.specs.Matching.{IsEarlier, IsTimeMatchIn, MatchTimeEnds, OrderEnds, ReadPartEnds, ReadsMatch, ReadsPart, StampedPartEnds, TimeFault, TimeRefuses, stamp_breach}
+use Rattle.time_index.specs.Matching.{IsEarlier, IsTimeMatchIn, MatchTimeEnds, OrderEnds, ReadPartEnds, ReadsMatch, ReadsPart, StampedPartEnds, TimeFault, stamp_breach}
 use Rattle.time_index.specs.declared.found.TimeMatch.{TimeMatch}
 use Rattle.time_index.specs.declared.matching.Stamped.{Stamped}
 use Rattle.time_index.proofs.Parts.{look_fails, of_lists, time_later}
@@ -52,6 +52,20 @@ module _ (g : Layout) (part : Part) (seconds : ℕ) {old new : ViewState} (viewe
   stored_length : (id body : List ℕ) → length (stored_bytes id body) ≡ length id + length body + 1
   stored_length id body = omega (arith, length-append id body)
 
+  held : (m : TimeMatch) → m.slot ≡ part.slot → m.identifier ≡ id_of h → m.seconds ≡ seconds
+      → m.bytes ≡ h.body_length → IsTrue old.base.tells → IsTimeMatchIn g new.image m
+  held m slot_is id_is seconds_is bytes_is tells = record {
+    body = has.body;
+    holds = subst (λ (n : ℕ). HoldsDocument g new.image n m.identifier has.body) (sym slot_is)
+        (subst (λ (id : List ℕ). HoldsDocument g new.image part.slot id has.body) (sym id_is)
+        (whole_is_held g new part.slot part (id_of h) has.body (told viewed tells)
+        (part_on viewed.image (is tells)) has.whole));
+    bytes_is = bytes_is ∙ sym has.is_length;
+    stamp = subst (λ (n : ℕ). HasStamp new.image n m.seconds) (sym slot_is)
+        (subst (λ (s : ℕ). HasStamp new.image part.slot s) (sym seconds_is)
+        (holds_on viewed.image (stamp tells)));
+  }
+
   pub was_read : (m : TimeMatch) → m.slot ≡ part.slot → m.identifier ≡ id_of h → m.seconds ≡ seconds
       → m.bytes ≡ h.body_length → ReadsPart g part seconds old new (Ok m)
   was_read m slot_is id_is seconds_is bytes_is = record {
@@ -59,7 +73,7 @@ module _ (g : Layout) (part : Part) (seconds : ℕ) {old new : ViewState} (viewe
     ends = record {
       slot_is = slot_is;
       seconds_is = seconds_is;
-      is = held;
+      is = held m slot_is id_is seconds_is bytes_is;
       reads = subst (λ (k : ℕ). new.base.reads ≤ old.base.reads + cells_for k) count reads;
     };
   }
@@ -69,22 +83,25 @@ module _ (g : Layout) (part : Part) (seconds : ℕ) {old new : ViewState} (viewe
           ∙ ap (λ (k : ℕ). length (id_of h) + k + 1) (has.is_length ∙ sym bytes_is)
           ∙ ap (λ (id : List ℕ). length id + m.bytes + 1) (sym id_is)
 
-      held : IsTrue old.base.tells → IsTimeMatchIn g new.image m
-      held tells = record {
-        body = has.body;
-        holds = subst (λ (n : ℕ). HoldsDocument g new.image n m.identifier has.body) (sym slot_is)
-            (subst (λ (id : List ℕ). HoldsDocument g new.image part.slot id has.body) (sym id_is)
-            (whole_is_held g new part.slot part (id_of h) has.body (told viewed tells)
-            (part_on viewed.image (is tells)) has.whole));
-        bytes_is = bytes_is ∙ sym has.is_length;
-        stamp = subst (λ (n : ℕ). HasStamp new.image n m.seconds) (sym slot_is)
-            (subst (λ (s : ℕ). HasStamp new.image part.slot s) (sym seconds_is)
-            (holds_on viewed.image (stamp tells)));
-      }
+  -- no memory was to be had for its identifier
+  pub was_wanted : ReadsPart g part seconds old new (Err NoMemory)
+  was_wanted = record {
+    viewed = viewed;
+    ends = λ tells. record {
+      wanted = wanted;
+      slot_is = refl;
+      seconds_is = refl;
+      is = held wanted refl refl refl refl tells;
+    };
+  }
+    where
+      wanted : TimeMatch
+      wanted = record { slot = part.slot; identifier = id_of h; seconds = seconds; bytes = h.body_length }
 
 module _ (r : Reach) (e : Entry) (before : Option Stamped) where
   -- a fault of a search by time
-  refuses : (old new : ViewState) (fault : Fault) → TimeFault r old new fault → TimeRefuses r old new (refusal_of_fault fault)
+  refuses : (old new : ViewState) (fault : Fault) → TimeFault r old new fault
+      → MatchTimeEnds r e before old new (Err (refusal_of_fault fault))
   refuses old new faults.Failed fails = fails
   refuses old new (faults.Tampered f) fails = fails
 
@@ -185,6 +202,7 @@ module _ (r : Reach) (e : Entry) (before : Option Stamped) where
                 → MatchTimeEnds r e before old new result
             by_result (Ok m) is = record {
               slot = omega (arith, is.slot_is, found.1);
+              below = omega (arith, is.slot_is, found.5);
               seconds = is.seconds_is;
               slot_is = is.slot_is ∙ found.0;
               is = λ tells. is.is (told viewed tells);
@@ -192,7 +210,13 @@ module _ (r : Reach) (e : Entry) (before : Option Stamped) where
                   (is.is (told viewed tells));
               reads = omega (arith, is.reads, costs);
             }
-            by_result (Err NoMemory) is = tt
+            by_result (Err NoMemory) is = λ tells. let w = is (told viewed tells) in record {
+              wanted = w.wanted;
+              is = w.is;
+              below = omega (arith, w.slot_is, found.0, found.5);
+              from_is = omega (arith, w.seconds_is);
+              to_is = omega (arith, w.seconds_is);
+            }
             by_result (Err DeviceFault) is = time_later r old mid new viewed reads.viewed faults.Failed
                 (look_fails r part.slot mid new reads.viewed faults.Failed is)
             by_result (Err (Tampered f)) is = time_later r old mid new viewed reads.viewed (faults.Tampered f)

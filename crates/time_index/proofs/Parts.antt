@@ -155,9 +155,9 @@ module _ (r : Reach) (e : Entry) (layout : IsLayout r.volume.geometry) where
             (one_record_holds new.image (spare_at (slot_named (posting_of e))) (Stamp other) (Stamp e.key) there has)))
 
     -- it has this one
-    pub its_stamp : slot_named (posting_of e) < r.volume.geometry.slots
+    pub its_stamp : slot_named (posting_of e) < r.volume.geometry.slots → slot_named (posting_of e) < r.horizon
         → ReadsStamp (slot_named (posting_of e)) mid new (Ok (Some e.key)) → StampedPartEnds r e old new (Ok (Some part))
-    its_stamp less reads = (
+    its_stamp less below reads = (
       is.0,
       omega (arith, is.0, less),
       is.1,
@@ -167,4 +167,5 @@ module _ (r : Reach) (e : Entry) (layout : IsLayout r.volume.geometry) where
             (subst (λ (n : ℕ). IsPartOf r.volume.geometry mid.image n part) (sym is.0) (is.3 tells)),
         subst (λ (n : ℕ). HasStamp new.image n e.key) (sym is.0) (reads.ends.1 (told first tells)),
       ),
+      omega (arith, is.0, below),
     )

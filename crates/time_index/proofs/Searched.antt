@@ -1,7 +1,8 @@
 -- What a search by time answers, over settling and what was gathered.
-use Rattle.std.proofs.Common.{◌≡◌, ◌<◌, ◌≤◌, ◌+◌, ◌*◌, ◌^◌, ℕ, List, length, Option, Some, None, Result, Ok, Err, refl, sym, ap, inl, inr, subst, arith, ◌∙◌}
+use Rattle.std.proofs.Common.{◌≡◌, ◌<◌, ◌≤◌, ◌+◌, ◌*◌, ◌^◌, ℕ, List, [], ◌∷◌, length, Option, Some, None, Result, Ok, Err, refl, sym, ap, inl, inr, ⊎_elim, subst, arith, ◌∙◌}
 use Rattle.std.specs.Global.{Vec}
 use Rattle.std.specs.Prelude.{Contains, IsTrue}
+use Rattle.std.proofs.lemmas.List.Elements.{Contains-push_cases}
 use Rattle.cell_types.specs.Image.{Image}
 use Rattle.cell_types.specs.Layout.{Layout}
 use Rattle.cell_types.specs.declared.geometry.TheConstants.{STAMPED_VERSION}
@@ -31,11 +32,12 @@ use Rattle.recovery_engine.specs.declared.settling.Ready.{Ready}
 use Rattle.record_query.specs.Looking.{HasLooked}
 use Rattle.record_query.specs.Reaching.{reach_of}
 use Rattle.record_query.proofs.Loans.{viewed_by_any}
-use Rattle.record_query.proofs.Looking.{is_ready, looked_from, same_since, still_looking, still_settling, tells_settled, volume_now}
+use Rattle.record_query.proofs.Looking.{has_settled, is_ready, looked_from, same_since, still_looking, still_settling, tells_settled, volume_now}
 use Rattle.record_query.proofs.Searched.{comes_to_settled, reach_is, walked}
 use Rattle.time_index.specs.Asking.{AsksStamps}
 use Rattle.time_index.specs.Gathering.{GatherTimesEnds, GathersTimes, GathersOnDevice, SpanGathered}
-use Rattle.time_index.specs.Spans.{FindsBetween, FindsKeptSpan, FindsSpan, HasTimeMatch, IsStampedSlot, NamesTimeRule, ReadsBriefly, SearchesTimes, SpanEnds, all_cells_of, searched, unstamped}
+use Rattle.time_index.specs.Matching.{IsTimeMatchIn, WantsTimeMatch}
+use Rattle.time_index.specs.Spans.{FindsBetween, FindsKeptSpan, FindsSpan, HasTimeMatch, IsStampedSlot, IsTimeMatch, LieInLog, NamesTimeRule, ReadsBriefly, SearchesTimes, SpanEnds, WantsMatch, all_cells_of, searched, unstamped}
 use Rattle.time_index.specs.declared.found.TimeMatch.{TimeMatch}
 use Rattle.time_index.specs.declared.span.TheConstants.{SPAN_READS}
 use Rattle.time_index.proofs.Matched.{one_stamp}
@@ -63,7 +65,7 @@ gathers_by_any ready from to old new a b result g = record {
       λ tells. let is = h.0 tells in record { rule = is.rule; stands = is.stands; place = is.place },
       λ still. shows_by_any (reach_of ready) new b {e = e} (h.1 still),
     )
-    by_result (Err refusals.NoMemory) h = tt
+    by_result (Err refusals.NoMemory) h = h
     by_result (Err refusal) h = absurd h
 
 module _ (from to : ℕ) (old new : DeviceState) where
@@ -113,6 +115,40 @@ module _ (r : Ready) (from to : ℕ) (old settled new : DeviceState) (s : Settle
 
     abbrev g : Layout
     g = r.volume.geometry
+
+    module _ (tells : IsTrue old.tells) where
+      -- a match tells of a document that stands
+      is_match : (found : TimeMatch) → IsTimeMatchIn g new.image found → from ≤ found.seconds → found.seconds ≤ to
+          → IsTimeMatch new.cells new.image from to found
+      is_match found is from_is to_is = record {
+        body = is.body;
+        stands = held_stands g new.cells new.image found.slot found.identifier is.body (volume_now w tells) is.holds;
+        bytes_is = is.bytes_is;
+        stamp = record { layout = g; volume = volume_now w tells; stamp = (stamped, is.stamp) };
+        from_is = from_is;
+        to_is = to_is;
+      }
+
+      -- below the horizon to which settling came
+      in_log : (matches : List TimeMatch) → ((found : TimeMatch) → Contains matches found → found.slot < r.horizon)
+          → LieInLog old new matches
+      in_log matches below = record {
+        ready = r;
+        settled = has_settled w;
+        horizon = λ still. (reach_is w tells still).horizon;
+        below = below;
+      }
+
+      -- memory was wanted for one
+      wants_match : WantsTimeMatch (reach_of r) new.image from to → WantsMatch from to old new
+      wants_match wants = record {
+        wanted = wants.wanted;
+        is = is_match wants.wanted wants.is wants.from_is wants.to_is;
+        log = in_log (wants.wanted ∷ []) (λ found among. ⊎_elim
+            (λ (none : Contains [] found). absurd (omega (arith, none.1)))
+            (λ (here : wants.wanted ≡ found). subst (λ (m : TimeMatch). m.slot < r.horizon) here wants.below)
+            (Contains-push_cases [] wants.wanted found among));
+      }
 
     module _ (tells : IsTrue old.tells) (matches : List TimeMatch)
         (gathered : SpanGathered (reach_of r) from to (seen_directly settled 0) (seen_directly new 0) matches) where
@@ -184,15 +220,8 @@ module _ (r : Ready) (from to : ℕ) (old settled new : DeviceState) (s : Settle
             d seconds among (subst (λ (i : Image). IsStampOf g i d.slot (Some seconds)) (same_since w still) by) from_is
             to_is;
         only = λ found among.
-            let is = gathered.only (tells_settled w tells) found among in record {
-              body = is.0.body;
-              stands = held_stands g new.cells new.image found.slot found.identifier is.0.body (volume_now w tells)
-                  is.0.holds;
-              bytes_is = is.0.bytes_is;
-              stamp = record { layout = g; volume = volume_now w tells; stamp = (stamped, is.0.stamp) };
-              from_is = is.1;
-              to_is = is.2;
-            };
+            let is = gathered.only (tells_settled w tells) found among in is_match tells found is.0 is.1 is.2;
+        log = in_log tells matches (λ found among. (gathered.only (tells_settled w tells) found among).3);
         rise = gathered.rise (tells_settled w tells);
       }
 
@@ -200,7 +229,7 @@ module _ (r : Ready) (from to : ℕ) (old settled new : DeviceState) (s : Settle
         → GatherTimesEnds (reach_of r) from to (seen_directly settled 0) (seen_directly new 0) result
         → SpanEnds from to old new result
     ends_of (Ok matches) ends = λ tells. finds tells matches.items ends
-    ends_of (Err refusals.NoMemory) ends = tt
+    ends_of (Err refusals.NoMemory) ends = λ tells. wants_match tells (ends (tells_settled w tells))
     ends_of (Err refusals.DeviceFault) ends = omega (arith, s.called.faults, ends)
     ends_of (Err (refusals.Tampered e)) ends = λ tells.
         let named = ends.0 (tells_settled w tells) in

@@ -24,8 +24,8 @@ use Rattle.jump_index.proofs.LookingLater.{trail_then}
 use Rattle.jump_index.proofs.Telling.{told}
 use Rattle.posting_list.specs.Searches.{head_of}
 use Rattle.posting_list.specs.declared.reach.Reach.{Reach}
-use Rattle.time_index.specs.Gathering.{AreTimeMatches, GathersTimes, TellsSlot, IsBehind, IsLastMatch, IsSlotUpTo, SpanGathered, SpanSoFar, unanswered}
-use Rattle.time_index.specs.Matching.{IsEarlier, IsMatchOf, IsTimeMatchIn, ReadsMatch, TimeFault, TimeRefuses, cells_of}
+use Rattle.time_index.specs.Gathering.{AreTimeMatches, GatherTimesEnds, GathersTimes, TellsSlot, IsBehind, IsLastMatch, IsSlotUpTo, SpanGathered, SpanSoFar, unanswered}
+use Rattle.time_index.specs.Matching.{IsEarlier, IsMatchOf, IsTimeMatchIn, MatchTimeEnds, ReadsMatch, TimeFault, cells_of}
 use Rattle.time_index.specs.Postings.{IsTimed, NextPosting, slot_named}
 use Rattle.time_index.specs.Spans.{SlotsRise, all_cells_of}
 use Rattle.time_index.specs.declared.found.TimeMatch.{TimeMatch}
@@ -85,7 +85,7 @@ module _ (r : Reach) (from to : ℕ) where
     on_now at p timed = trail_then r.bounds (head_of r r.volume.geometry.lists) at p old now so.viewed timed
 
     only_on : {new : ViewState} → Viewed now new → IsTrue old.base.tells → AreTimeMatches r new from to matches
-    only_on after tells m among = let was = so.only tells m among in (match_on after.image was.0, was.1, was.2)
+    only_on after tells m among = let was = so.only tells m among in (match_on after.image was.0, was.1, was.2, was.3)
 
     -- the postings could not be searched
     pub search_fails : {mid : ViewState} (fault : Fault) → NextPosting r key to now mid (Err fault)
@@ -96,7 +96,7 @@ module _ (r : Reach) (from to : ℕ) where
           (of_lists r now mid next.viewed fault next.ends));
     }
       where
-        refused : (fault : Fault) → TimeFault r old mid fault → TimeRefuses r old mid (refusal_of_fault fault)
+        refused : (fault : Fault) → TimeFault r old mid fault → GatherTimesEnds r from to old mid (Err (refusal_of_fault fault))
         refused faults.Failed fails = fails
         refused (faults.Tampered e) fails = fails
 
@@ -140,12 +140,19 @@ module _ (r : Reach) (from to : ℕ) where
         ends = since refusal reads.ends;
       }
         where
-          since : (refusal : Refusal) → TimeRefuses r mid new refusal → TimeRefuses r old new refusal
+          since : (refusal : Refusal) → MatchTimeEnds r e last mid new (Err refusal)
+              → GatherTimesEnds r from to old new (Err refusal)
           since refusals.DeviceFault fails = time_later r old mid new (viewed_then so.viewed next.viewed) reads.viewed
               faults.Failed fails
           since (refusals.Tampered f) fails = time_later r old mid new (viewed_then so.viewed next.viewed) reads.viewed
               (faults.Tampered f) fails
-          since refusals.NoMemory fails = tt
+          since refusals.NoMemory fails = λ tells. let w = fails (told next.viewed (told so.viewed tells)) in record {
+            wanted = w.wanted;
+            is = w.is;
+            below = w.below;
+            from_is = omega (arith, w.from_is, next.ends.from_is, so.next_is.0);
+            to_is = omega (arith, w.to_is, next.ends.to_is);
+          }
           since refusal fails = absurd fails
 
       module _ {new : ViewState} (m : TimeMatch) (reads : ReadsMatch r e last mid new (Ok m)) where
@@ -157,7 +164,16 @@ module _ (r : Reach) (from to : ℕ) where
 
         -- no memory was to be had for one more
         pub not_kept : GathersTimes r from to old new (Err refusals.NoMemory)
-        not_kept = record { viewed = viewed_then (viewed_then so.viewed next.viewed) reads.viewed; ends = tt }
+        not_kept = record {
+          viewed = viewed_then (viewed_then so.viewed next.viewed) reads.viewed;
+          ends = λ tells. record {
+            wanted = m;
+            is = is.is (told_mid tells);
+            below = is.below;
+            from_is = omega (arith, is.seconds, next.ends.from_is, so.next_is.0);
+            to_is = omega (arith, is.seconds, next.ends.to_is);
+          };
+        }
 
         old_slot : {n seconds : ℕ} → TellsSlot matches n seconds → TellsSlot (matches ++ m ∷ []) n seconds
         old_slot has = record {
@@ -219,10 +235,12 @@ module _ (r : Reach) (from to : ℕ) where
             only = λ tells o among. ⊎_elim
                 (λ (before : Contains matches o). only_on (viewed_then next.viewed reads.viewed) tells o before)
                 (λ (here : m ≡ o). subst
-                (λ (x : TimeMatch). IsTimeMatchIn r.volume.geometry new.image x × (from ≤ x.seconds) × (x.seconds ≤ to)) here (
+                (λ (x : TimeMatch). IsTimeMatchIn r.volume.geometry new.image x × (from ≤ x.seconds) × (x.seconds ≤ to)
+                × (x.slot < r.horizon)) here (
                   is.is (told_mid tells),
                   omega (arith, is.seconds, next.ends.from_is, so.next_is.0),
                   omega (arith, is.seconds, next.ends.to_is),
+                  is.below,
                 ))
                 (Contains-push_cases matches m o among);
             rise = λ tells. rises_on matches m 0 (so.rise tells) (below_slot tells) (omega arith);

@@ -2,6 +2,7 @@
 use Rattle.std.specs.Prelude.{◌≡◌, ◌<◌, ◌≤◌, ◌+◌, ◌*◌, ◌^◌, IfSome, ℕ, List, length, Contains, Option, Some, None, Result, Ok, Err, IsTrue}
 use Rattle.std.specs.Global.{Vec}
 use Rattle.cell_types.specs.declared.refusal.Refusal.{Refusal}
+use Rattle.cell_types.specs.declared.refusal.Refusal.TheVariants.{NoMemory}
 use Rattle.volume_meaning.specs.Postings.{time_posting}
 use Rattle.volume_meaning.specs.Slots.{HasStamp}
 use Rattle.worm_device.specs.State.{DeviceState}
@@ -9,7 +10,7 @@ use Rattle.worm_device.specs.Views.{ViewState, Viewed, seen_directly}
 use Rattle.posting_list.specs.declared.reach.Reach.{Reach}
 use Rattle.recovery_engine.specs.declared.settling.Ready.{Ready}
 use Rattle.record_query.specs.Reaching.{reach_of}
-use Rattle.time_index.specs.Matching.{IsTimeMatchIn, TimeRefuses}
+use Rattle.time_index.specs.Matching.{IsTimeMatchIn, TimeRefuses, WantsTimeMatch}
 use Rattle.time_index.specs.Postings.{IsTimed}
 use Rattle.time_index.specs.Spans.{SlotsRise, all_cells_of}
 use Rattle.time_index.specs.declared.found.TimeMatch.{TimeMatch}
@@ -28,11 +29,11 @@ AreAnswered r old from below matches =
     (at n seconds : ℕ) → n < 2 ^ 32 → IsTimed r old at (time_posting n seconds) → from ≤ seconds → seconds < below
     → TellsSlot matches n seconds
 
--- each match tells of a document that its slot holds, and of the slot's stamp, which lies in the span
+-- each match tells of a document that its slot holds, below the horizon, and of the slot's stamp, which lies in the span
 abbrev pub AreTimeMatches : Reach → ViewState → ℕ → ℕ → List TimeMatch → Type 0
 AreTimeMatches r now from to matches =
     (m : TimeMatch) → Contains matches m
-    → IsTimeMatchIn r.volume.geometry now.image m × (from ≤ m.seconds) × (m.seconds ≤ to)
+    → IsTimeMatchIn r.volume.geometry now.image m × (from ≤ m.seconds) × (m.seconds ≤ to) × (m.slot < r.horizon)
 
 -- the documents of a span were gathered
 pub record SpanGathered (r : Reach) (from to : ℕ) (old new : ViewState) (matches : List TimeMatch) : Type 0 where
@@ -44,6 +45,7 @@ pub record SpanGathered (r : Reach) (from to : ℕ) (old new : ViewState) (match
 -- how gathering them may end, and why
 abbrev pub GatherTimesEnds : Reach → ℕ → ℕ → ViewState → ViewState → Result (Vec TimeMatch) Refusal → Type 0
 GatherTimesEnds r from to old new (Ok matches) = SpanGathered r from to old new matches.items
+GatherTimesEnds r from to old new (Err NoMemory) = IsTrue old.base.tells → WantsTimeMatch r new.image from to
 GatherTimesEnds r from to old new (Err refusal) = TimeRefuses r old new refusal
 
 pub record GathersTimes (r : Reach) (from to : ℕ) (old new : ViewState)

@@ -1,5 +1,5 @@
 -- How the document of a posting of the time list is read, and what is evidence against the posting.
-use Rattle.std.specs.Prelude.{◌≡◌, ◌<◌, ◌≤◌, ◌+◌, ◌⊎◌, IfSome, ℕ, List, length, Option, Some, None, Result, Ok, Err, IsTrue, ⊤}
+use Rattle.std.specs.Prelude.{◌≡◌, ◌<◌, ◌≤◌, ◌+◌, ◌⊎◌, IfSome, ℕ, List, length, Option, Some, None, Result, Ok, Err, IsTrue}
 use Rattle.cell_types.specs.Image.{Image}
 use Rattle.cell_types.specs.Layout.{Layout, pool_at, spare_at}
 use Rattle.cell_types.specs.Records.{record_bytes}
@@ -44,21 +44,20 @@ TimeFault r old new (faults.Tampered e) =
     (IsTrue old.base.tells → IsTimeEvidence r new.image e)
     × (IsStill old.base.foreign_writes new.base.foreign_writes → ShowsListEvidence r new e)
 
--- the same, as a command refuses
+-- the same, as a command refuses; want of memory has a cause of its own
 abbrev pub TimeRefuses : Reach → ViewState → ViewState → Refusal → Type 0
 TimeRefuses r old new DeviceFault = TimeFault r old new faults.Failed
 TimeRefuses r old new (Tampered e) = TimeFault r old new (faults.Tampered e)
-TimeRefuses r old new NoMemory = ⊤
 TimeRefuses r old new refusal = ⊥
 
--- How a look for the document of a posting's slot may end, and why. There is one where the slot is live and has the
--- posting's stamp; where there is none, the posting is no true one by this horizon.
+-- How a look for the document of a posting's slot may end, and why. There is one where the slot lies below the horizon, is
+-- done, and has the posting's stamp; where there is none, the posting is no true one by this horizon.
 abbrev pub StampedPartEnds : Reach → Entry → ViewState → ViewState → Result (Option Part) Fault → Type 0
 StampedPartEnds r e old new (Ok (Some part)) =
     (part.slot ≡ slot_named (posting_of e)) × (part.slot < r.volume.geometry.slots)
     × (part.start + cells_for part.bytes ≤ r.volume.geometry.cells) × IsStated part
     × (IsTrue old.base.tells → IsPartOf r.volume.geometry new.image part.slot part
-    × HasStamp new.image part.slot e.key)
+    × HasStamp new.image part.slot e.key) × (part.slot < r.horizon)
 StampedPartEnds r e old new (Ok None) =
     IsStill old.base.foreign_writes new.base.foreign_writes → IsTrue new.base.tells
     → IsHorizon r.volume.geometry new.image new.image r.horizon
@@ -98,15 +97,25 @@ cells_of m = cells_for (length m.identifier + m.bytes + 1)
 -- the match is the document of this posting, and its slot lies behind that of an earlier one, if there is an earlier one
 pub record IsMatchOf (r : Reach) (e : Entry) (before : Option Stamped) (old new : ViewState) (m : TimeMatch) : Type 0 where
   pub slot : m.slot < r.volume.geometry.slots
+  pub below : m.slot < r.horizon
   pub seconds : m.seconds ≡ e.key
   pub slot_is : m.slot ≡ slot_named (posting_of e)
   pub is : IsTrue old.base.tells → IsTimeMatchIn r.volume.geometry new.image m
   pub later : IsTrue old.base.tells → IfSome before (λ b. b.slot < m.slot)
   pub reads : new.base.reads ≤ old.base.reads + 5 + cells_of m
 
+-- Memory was wanted for a match: a document that its slot holds, below the horizon, with a stamp from one time to another.
+pub record WantsTimeMatch (r : Reach) (image : Image) (from to : ℕ) : Type 0 where
+  pub wanted : TimeMatch
+  pub is : IsTimeMatchIn r.volume.geometry image wanted
+  pub below : wanted.slot < r.horizon
+  pub from_is : from ≤ wanted.seconds
+  pub to_is : wanted.seconds ≤ to
+
 -- how reading the document of a posting may end, and why
 abbrev pub MatchTimeEnds : Reach → Entry → Option Stamped → ViewState → ViewState → Result TimeMatch Refusal → Type 0
 MatchTimeEnds r e before old new (Ok m) = IsMatchOf r e before old new m
+MatchTimeEnds r e before old new (Err NoMemory) = IsTrue old.base.tells → WantsTimeMatch r new.image e.key e.key
 MatchTimeEnds r e before old new (Err refusal) = TimeRefuses r old new refusal
 
 pub record ReadsMatch (r : Reach) (e : Entry) (before : Option Stamped) (old new : ViewState)
@@ -121,10 +130,17 @@ pub record IsReadMatch (g : Layout) (part : Part) (seconds : ℕ) (old new : Vie
   pub is : IsTrue old.base.tells → IsTimeMatchIn g new.image m
   pub reads : new.base.reads ≤ old.base.reads + cells_of m
 
+-- memory was wanted for the match of this part
+pub record WantsPart (g : Layout) (part : Part) (seconds : ℕ) (image : Image) : Type 0 where
+  pub wanted : TimeMatch
+  pub slot_is : wanted.slot ≡ part.slot
+  pub seconds_is : wanted.seconds ≡ seconds
+  pub is : IsTimeMatchIn g image wanted
+
 -- how reading a part may end, and why
 abbrev pub ReadPartEnds : Layout → Part → ℕ → ViewState → ViewState → Result TimeMatch Refusal → Type 0
 ReadPartEnds g part seconds old new (Ok m) = IsReadMatch g part seconds old new m
-ReadPartEnds g part seconds old new (Err NoMemory) = ⊤
+ReadPartEnds g part seconds old new (Err NoMemory) = IsTrue old.base.tells → WantsPart g part seconds new.image
 ReadPartEnds g part seconds old new (Err refusal) = LookRefuses g part.slot old new refusal
 
 pub record ReadsPart (g : Layout) (part : Part) (seconds : ℕ) (old new : ViewState) (result : Result TimeMatch Refusal)

@@ -1,5 +1,5 @@
 -- What it means that a volume is searched for the documents of a span of time.
-use Rattle.std.specs.Prelude.{◌≡◌, ◌≤◌, ◌+◌, ◌*◌, ◌⊎◌, ℕ, List, [], ◌∷◌, length, Contains, Some, Result, Ok, Err, IsTrue, ⊤}
+use Rattle.std.specs.Prelude.{◌≡◌, ◌<◌, ◌≤◌, ◌+◌, ◌*◌, ◌⊎◌, ℕ, List, [], ◌∷◌, length, Contains, Some, Result, Ok, Err, IsTrue, ⊤}
 use Rattle.std.specs.Global.{Vec}
 use Rattle.cell_types.specs.Image.{Image}
 use Rattle.cell_types.specs.Layout.{Layout}
@@ -8,13 +8,14 @@ use Rattle.cell_types.specs.declared.refusal.Refusal.TheVariants.{DeviceFault, N
 use Rattle.commit_record.specs.Licences.{IsLicensed}
 use Rattle.volume_meaning.specs.Keeping.{Kept}
 use Rattle.volume_meaning.specs.Documents.{Document, Stands}
-use Rattle.volume_meaning.specs.Slots.{IsStampOf}
+use Rattle.volume_meaning.specs.Slots.{IsHorizon, IsStampOf}
 use Rattle.volume_meaning.specs.Volumes.{IsVolume}
 use Rattle.tamper_rules.specs.Settling.{Settled}
 use Rattle.worm_device.specs.Calls.{Called}
 use Rattle.worm_device.specs.Counts.{IsStill, Rose}
 use Rattle.worm_device.specs.State.{DeviceState}
-use Rattle.recovery_engine.specs.Settling.{IsSettlingRule, SettleEnds, SettlesFirst}
+use Rattle.recovery_engine.specs.Settling.{HasSettled, IsSettlingRule, SettleEnds, SettlesFirst}
+use Rattle.recovery_engine.specs.declared.settling.Ready.{Ready}
 use Rattle.time_index.specs.Asking.{AsksStamps, IsWithoutStamps}
 use Rattle.time_index.specs.Matching.{IsTimeRule, cells_of}
 use Rattle.time_index.specs.declared.span.TheConstants.{CELL_READS, SPAN_READS, TURN_READS}
@@ -44,6 +45,21 @@ pub record IsTimeMatch (cells : ℕ) (image : Image) (from to : ℕ) (found : Ti
   pub from_is : from ≤ found.seconds
   pub to_is : found.seconds ≤ to
 
+-- The slots of the matches lie below the horizon to which settling came, which is one of the image at exit where nobody
+-- else wrote. Each slot that is done lies below some horizon of a hostile image, so it is said of that one.
+pub record LieInLog (old new : DeviceState) (matches : List TimeMatch) : Type 0 where
+  pub ready : Ready
+  pub settled : HasSettled old new ready
+  pub horizon : IsStill old.foreign_writes new.foreign_writes
+      → IsHorizon ready.volume.geometry new.image new.image ready.horizon
+  pub below : (found : TimeMatch) → Contains matches found → found.slot < ready.horizon
+
+-- memory was wanted for this match, which tells of a document of the span, as one that is answered does
+pub record WantsMatch (from to : ℕ) (old new : DeviceState) : Type 0 where
+  pub wanted : TimeMatch
+  pub is : IsTimeMatch new.cells new.image from to wanted
+  pub log : LieInLog old new (wanted ∷ [])
+
 -- the slots of the matches rise, from this one on
 abbrev pub SlotsRise : ℕ → List TimeMatch → Type 0
 SlotsRise from [] = ⊤
@@ -56,8 +72,8 @@ FindsSpanOf cells image from to matches documents =
     → seconds ≤ to → HasTimeMatch matches d.slot d.id d.body seconds
 
 -- What was found: of each list of documents that was kept at entry those whose stamps lie in the span; and where nobody
--- else wrote, of each that is kept at exit. Each match tells of a document that stands at exit with its stamp; and slots
--- rise.
+-- else wrote, of each that is kept at exit. Each match tells of a document that stands at exit with its stamp, in a slot
+-- of the log; and slots rise.
 pub record FindsSpan (from to : ℕ) (old new : DeviceState) (matches : List TimeMatch) : Type 0 where
   pub all : (documents : List Document) → Kept old.cells old.image documents
       → FindsSpanOf old.cells old.image from to matches documents
@@ -65,12 +81,13 @@ pub record FindsSpan (from to : ℕ) (old new : DeviceState) (matches : List Tim
       → (documents : List Document) → Kept new.cells new.image documents
       → FindsSpanOf new.cells new.image from to matches documents
   pub only : (found : TimeMatch) → Contains matches found → IsTimeMatch new.cells new.image from to found
+  pub log : LieInLog old new matches
   pub rise : SlotsRise 0 matches
 
 -- how a search of a volume of stamped documents may end, and why
 abbrev pub SpanEnds : ℕ → ℕ → DeviceState → DeviceState → Result (Vec TimeMatch) Refusal → Type 0
 SpanEnds from to old new (Ok matches) = IsTrue old.tells → FindsSpan from to old new matches.items
-SpanEnds from to old new (Err NoMemory) = ⊤
+SpanEnds from to old new (Err NoMemory) = IsTrue old.tells → WantsMatch from to old new
 SpanEnds from to old new (Err NoStamps) = IsTrue old.tells → IsWithoutStamps new.cells new.image
 SpanEnds from to old new (Err DeviceFault) = Rose old.faults new.faults
 SpanEnds from to old new (Err (Tampered e)) = IsTrue old.tells → IsLicensed old new e

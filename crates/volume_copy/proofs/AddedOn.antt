@@ -1,6 +1,6 @@
 -- One document more was copied, and then those that have no pair.
 use Rattle.std.proofs.Common.{◌≡◌, ◌<◌, ◌+◌, ◌∙◌, ℕ, List, [], ◌∷◌, ◌++◌, Some, None, Result, Ok, Err, inl, inr, ⊎_elim, refl, sym, ap, subst, arith, length, append-nil}
-use Rattle.std.specs.Prelude.{IsTrue, slice_get, slice_index}
+use Rattle.std.specs.Prelude.{IsTrue, slice_get, slice_index, take}
 use Rattle.std.proofs.lemmas.List.{length_push, take_all}
 use Rattle.cell_types.specs.Image.{Between, Extends, Image}
 use Rattle.cell_types.specs.Layout.{Layout}
@@ -11,7 +11,7 @@ use Rattle.cell_types.specs.declared.refusal.Refusal.TheVariants as refusals
 use Rattle.volume_meaning.specs.Documents.{AreDocuments, Document, Stands}
 use Rattle.volume_meaning.specs.Slots.{IsStampOf}
 use Rattle.volume_meaning.specs.Volumes.{IsVolume}
-use Rattle.volume_meaning.proofs.Extending.{done_slot_on, volume_on}
+use Rattle.volume_meaning.proofs.Extending.{done_slot_on, stands_on, volume_on}
 use Rattle.volume_meaning.proofs.OneDocument.{one_document}
 use Rattle.volume_meaning.proofs.Stamps.{stamp_on}
 use Rattle.tamper_rules.specs.Settling.{Held, IsBlankOrSound, Settled, Sound, nothing, of_after}
@@ -32,12 +32,12 @@ use Rattle.crash_laws.proofs.LeftWhole.{sure_steady}
 use Rattle.crash_laws.specs.Steadiness.{HasOneMore, HoldsOneMore, IsLeftByIngest}
 use Rattle.crash_laws.proofs.AddsOne.{comes_more}
 use Rattle.crash_laws.proofs.Steady.{comes_steady}
-use Rattle.volume_copy.specs.Adding.{AddDocumentEnds, AddFails, AddsNext, CanBeRead, Completes, CopiedSoFar, CopyGoesOn, IngestsOf, RestFails, WhereCopied}
+use Rattle.volume_copy.specs.Adding.{AddDocumentEnds, AddFails, AddsNext, CanBeRead, Completes, CopyGoesOn, IngestsOf, RestFails, WhereCopied}
 use Rattle.volume_copy.specs.Auditing.{IsWholeVolume}
 use Rattle.volume_copy.specs.Alone.{AreAlone}
 use Rattle.volume_copy.specs.Completing.{AreOfOneVersion, IsForRoom}
 use Rattle.volume_copy.specs.First.{HoldsFirst, StaysFirst, none}
-use Rattle.volume_copy.specs.Pairs.{AgreeSoFar, ArePairs}
+use Rattle.volume_copy.specs.Pairs.{AgreeSoFar, ArePairs, CopiedSoFar, HoldSame, IsNextToCopy, PairsHold}
 use Rattle.volume_copy.specs.Reading.{HoldsCopy, IsOnlyRead, ReadingFails}
 use Rattle.volume_copy.specs.Refusing.{refusal_from, refusal_to}
 use Rattle.volume_copy.specs.Staying.{IsSoundThroughout}
@@ -46,7 +46,7 @@ use Rattle.volume_copy.specs.declared.moved.Moved.{Moved}
 use Rattle.volume_copy.specs.declared.stored.StoredCopy.{StoredCopy}
 use Rattle.volume_copy.proofs.First.{first_below, first_then}
 use Rattle.volume_copy.proofs.ForRoom.{for_room}
-use Rattle.volume_copy.proofs.PairLists.{by_place, pairs_on, pairs_push, place_in}
+use Rattle.volume_copy.proofs.PairLists.{by_place, pairs_hold_on, pairs_hold_push, pairs_on, pairs_push, place_in}
 use Rattle.volume_copy.proofs.Stayed.{sound_self, sound_then}
 use Rattle.volume_copy.proofs.Unhindered.{reads_settled}
 use Rattle.volume_copy.proofs.WholeVolumes.{reading_later}
@@ -181,6 +181,34 @@ module _ (source : AuditedVolume) {s t u v : DeviceState} (device_u : IsDevice u
   old_pairs = pairs_on g h read.called.image called.image so.agree.target moved so.agree.source
       (subst (λ (l : List Document). ArePairs g h s.image u.image l moved so.agree.source)
       (take_all (length moved) so.agree.target (omega (arith, so.all))) so.agree.pairs)
+
+  -- it is the next one, behind those that have their pairs
+  pub next_to_copy : IsNextToCopy t u ing.id ing.body
+  next_to_copy = record {
+    moved = moved;
+    copied = record {
+      agree = record {
+        from_layout = g;
+        to_layout = h;
+        from_volume = from_volume_t;
+        to_volume = so.agree.to_volume;
+        source = so.agree.source;
+        target = so.agree.target;
+        those = those_t;
+        these = so.agree.these;
+        some = so.agree.some;
+        pairs = pairs_on g h read.called.image (extends_self u.image) (take (length moved) so.agree.target) moved
+            so.agree.source so.agree.pairs;
+      };
+      all = so.all;
+      settled = so.settled;
+      sure = so.sure;
+    };
+    next = d;
+    next_is = at.1;
+    id_is = is_that.0;
+    body_is = is_that.1;
+  }
 
   -- with the document in this slot, which has the stamp, there is a pair more
   pairs_with : (m : ℕ) → IsStampOf h v.image m ing.stamp
@@ -341,6 +369,7 @@ pub record RestSoFar (source : AuditedVolume) (from now to there : DeviceState) 
   pub to_called : Called to there
   pub to_sound : IsSoundThroughout to there
   pub to_first : WhereCopied source from now to there moved (StaysFirst now.cells now.image to there)
+  pub same : IsTrue from.tells → IsTrue to.tells → PairsHold from to moved → PairsHold now there moved_now
   pub count : length moved_now ≡ place
   pub goes : CopyGoesOn source from now to there moved moved_now
 
@@ -351,9 +380,37 @@ rest_none source from to moved place count = record {
   to_called = called_self to;
   to_sound = sound_self to;
   to_first = λ alone whole so since image le left. inl left;
+  same = λ from_tells to_tells hold. hold;
   count = count;
   goes = λ alone whole so. so;
 }
+
+-- a document that was ingested says the same as the one that was read
+ingested_holds : {source : AuditedVolume} {t u v : DeviceState} → IsDevice v → CanBeRead t source → IsTrue t.tells
+    → IsTrue u.tells → (pair : Moved) → IngestsOf source.volume.geometry pair.old t u v (Ok pair.new)
+    → HoldSame t v pair.old pair.new
+ingested_holds {source} {t} {u} {v} device can t_tells u_tells pair ing =
+    let is = ing.ingests.ends u_tells in
+    record {
+      from_layout = source.volume.geometry;
+      to_layout = is.layout;
+      from_volume = can.is_volume t_tells;
+      to_volume = is.volume;
+      d = document_in pair.old ing.id ing.body;
+      e = document_in pair.new ing.id ing.body;
+      old_is = refl;
+      new_is = refl;
+      there = held_stands source.volume.geometry t.cells t.image pair.old ing.id ing.body (can.is_volume t_tells)
+          (ing.holds t_tells);
+      here = stands_on device.sure is.document;
+      same = record {
+        id = refl;
+        body = refl;
+        stamp = ing.stamp;
+        there = ing.stamped t_tells;
+        here = stamp_on is.layout pair.new ing.stamp device.sure is.stamped;
+      };
+    }
 
 -- nobody else wrote up to a moment between
 pub alone_first : {a b c x y z : DeviceState} → Called a b → Called b c → Called x y → Called y z → AreAlone a c x z
@@ -427,6 +484,12 @@ module _ {source : AuditedVolume} {from now new to there then : DeviceState} {mo
     to_called = called_then so_far.to_called adds.to_called;
     to_sound = sound_then so_far.to_called adds.to_called so_far.to_sound adds.to_sound;
     to_first = rest_first device_now (Ok pair) adds;
+    same = λ from_tells to_tells hold.
+        let read = called_then so_far.from_read.called adds.from_read.called in
+        pairs_hold_push moved_now pair
+        (pairs_hold_on adds.from_read.called adds.to_called moved_now (so_far.same from_tells to_tells hold))
+        (ingested_holds device_then (can_on read can) (subst IsTrue (sym read.tells) from_tells)
+        (subst IsTrue (sym so_far.to_called.tells) to_tells) pair adds.ends.1);
     count = length_push moved_now pair ∙ ap (λ (n : ℕ). n + 1) so_far.count;
     goes = λ alone whole so.
         let before = alone_first so_far.from_read.called adds.from_read.called so_far.to_called adds.to_called alone in
@@ -438,12 +501,24 @@ module _ {source : AuditedVolume} {from now new to there then : DeviceState} {mo
         (subst (λ (n : ℕ). AddDocumentEnds source n now new there then (Ok pair)) (sym so_far.count) adds.ends);
   }
 
-  pub rest_fails : (refusal : CopyRefusal) → AddsNext source place now new there then (Err refusal)
-      → RestFails source.volume.geometry from new to then refusal
-  rest_fails refusal adds = go refusal adds.ends
+  pub rest_fails : IsDevice now → IsDevice there → IsDevice then → place < length source.done.items → (refusal : CopyRefusal)
+      → AddsNext source place now new there then (Err refusal) → RestFails source moved from new to then refusal
+  rest_fails device_now device_there device_then less refusal adds = go refusal adds.ends
     where
+      -- it was the next one, behind those that have their pairs
+      was_next : {r : Refusal} → (fails : IngestsOf source.volume.geometry (slice_index source.done.items place) new there then (Err r))
+          → WhereCopied source from new to then moved (IsNextToCopy new there fails.id fails.body)
+      was_next fails alone whole so =
+          let before = alone_first so_far.from_read.called adds.from_read.called so_far.to_called adds.to_called alone in
+          next_to_copy source device_there device_then
+          (alone_second so_far.from_read.called adds.from_read.called so_far.to_called adds.to_called alone)
+          adds.from_read adds.to_called (can_on so_far.from_read.called can)
+          (whole_on device_now so_far.from_read before.from_alone whole) moved_now
+          (so_far.goes before whole so) (omega (arith, so_far.count, less)) (slice_index source.done.items place)
+          (ap (λ (k : ℕ). slice_index source.done.items k) (sym so_far.count)) fails
+
       go : (r : CopyRefusal) → AddFails source.volume.geometry (slice_index source.done.items place) now new there then r
-          → RestFails source.volume.geometry from new to then r
+          → RestFails source moved from new to then r
       go copies.NoMemory fails = tt
       go (copies.From refusals.NoMemory) fails = absurd fails
       go (copies.From r) fails = reading_later so_far.from_read.called adds.from_read.called r fails
@@ -453,5 +528,6 @@ module _ {source : AuditedVolume} {from now new to there then : DeviceState} {mo
         called = so_far.to_called;
         slot = slice_index source.done.items place;
         ingests = fails;
+        next = was_next fails;
       }
       go r fails = absurd fails

@@ -29,7 +29,7 @@ use Rattle.crash_laws.specs.SettlingSteadiness.{IsSteady}
 use Rattle.command_laws.specs.Begins.{BeginsSteady}
 use Rattle.command_laws.specs.Telling.{IsFormatted, LeavesHeld}
 use Rattle.command_laws.proofs.Formatting.{format_makes}
-use Rattle.volume_copy.specs.Adding.{CanBeRead, CopiedSoFar}
+use Rattle.volume_copy.specs.Adding.{CanBeRead}
 use Rattle.volume_copy.specs.Auditing.{AuditsSteady, HasAudited, IsWholeVolume, by_reading}
 use Rattle.volume_copy.specs.Beginning.{BeginEnds, BeginsCopy, HaveNumbers, IsCopyFree, StatesNone, StatesOther}
 use Rattle.volume_copy.specs.Comparing.{CompareVolumesEnds, ComparesAll}
@@ -38,6 +38,7 @@ use Rattle.volume_copy.specs.Copies.{IsOfVersion, IsOtherVolume, RefusesTo, by_v
 use Rattle.volume_copy.specs.Completing.{EndsUnhindered, IsForRoom}
 use Rattle.volume_copy.specs.First as firsts
 use Rattle.volume_copy.specs.First.{HoldsFirst}
+use Rattle.volume_copy.specs.Pairs.{AnsweredHold, CopiedSoFar, PairsHold}
 use Rattle.volume_copy.specs.Reading.{IsOnlyRead}
 use Rattle.volume_copy.specs.Refusing.{refusal_to}
 use Rattle.volume_copy.specs.Staying.{IsHeldThroughout}
@@ -56,7 +57,7 @@ read_once reads = record { called = reads.called; only = reads.only }
 
 -- the target refuses
 pub begin_refuses : (slots lists : ℕ) (source : AuditedVolume) (from from' to to' : DeviceState) (refusal : Refusal)
-    → RefusesTo slots lists from' to to' refusal
+    → RefusesTo slots lists from from' to to' refusal
     → BeginEnds slots lists source from from' to to' (Err (refusal_to refusal))
 begin_refuses slots lists source from from' to to' refusals.NoMemory refuses = tt
 begin_refuses slots lists source from from' to to' refusal refuses = refuses
@@ -162,6 +163,8 @@ begins_formatted slots lists version {source} {from} {to} {mid} {new} moved none
       to_called = called_then called formats.called;
       to_held = held_then device_to device called formats.called held
           (format_held (layout_for slots lists version mid) (Ok tt) refl device formats);
+      same = λ from_tells to_tells. subst (λ (l : List Moved). PairsHold from new l) (sym none)
+          (λ pair among. absurd (omega (arith, among.1)));
       complete = λ free. tt;
       ends = λ alone whole.
           let tells = subst IsTrue (sym called.tells) alone.to_tells in
@@ -336,6 +339,7 @@ module _ (slots lists version : ℕ) {source target : AuditedVolume} {from from'
     from_read = compares.from_read;
     to_called = called_then called (called_then audit.called compares.to_read.called);
     to_held = held_all;
+    same = all_same result compares.same;
     complete = λ free. compared_free compares.from_read compares.to_read free held_all result compares.ends;
     ends = go result compares.ends;
   }
@@ -344,6 +348,12 @@ module _ (slots lists version : ℕ) {source target : AuditedVolume} {from from'
       held_all = held_then device_to device_mid called (called_then audit.called compares.to_read.called) held_first
           (held_then device_mid device_audited audit.called compares.to_read.called held
           (read_held device_audited device_new compares.to_read))
+
+      all_same : (r : Result (Vec Moved) CopyRefusal) → AnsweredHold from from' audited new r
+          → AnsweredHold from from' to new r
+      all_same (Ok moved) same = λ from_tells to_tells. same from_tells
+          (subst IsTrue (sym (called_then called audit.called).tells) to_tells)
+      all_same (Err refusal) same = tt
 
       go : (r : Result (Vec Moved) CopyRefusal) → CompareVolumesEnds source target from from' audited new r
           → BeginEnds slots lists source from from' to new r

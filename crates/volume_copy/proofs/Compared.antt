@@ -24,19 +24,19 @@ use Rattle.worm_device.specs.State.{DeviceState, IsDevice}
 use Rattle.worm_device.proofs.Elapsing.{called_then}
 use Rattle.document_store.specs.Standing.{HoldsDocument}
 use Rattle.document_store.proofs.Holding.{held_stands}
-use Rattle.volume_copy.specs.Adding.{CanBeRead, CopiedSoFar}
+use Rattle.volume_copy.specs.Adding.{CanBeRead}
 use Rattle.volume_copy.specs.Auditing.{IsWholeVolume}
 use Rattle.volume_copy.specs.Comparing.{CompareVolumesEnds, ComparesAll, ComparesNext, FindsOther, FindsSame, IsSameCopy, NextPairEnds, ReadsBoth, WhereWhole}
 use Rattle.volume_copy.specs.Alone.{AreAlone}
 use Rattle.volume_copy.specs.Copies.{HoldOthers, IsFirstPast, IsFirstToDiffer}
-use Rattle.volume_copy.specs.Pairs.{AgreeSoFar, ArePairs, SaysSame}
+use Rattle.volume_copy.specs.Pairs.{AgreeSoFar, ArePairs, CopiedSoFar, HoldSame, PairsHold, SaysSame}
 use Rattle.volume_copy.specs.Reading.{HoldsCopy, IsOnlyRead, ReadingFails}
 use Rattle.volume_copy.specs.Refusing.{refusal_from, refusal_to}
 use Rattle.volume_copy.specs.declared.audited.AuditedVolume.{AuditedVolume}
 use Rattle.volume_copy.specs.declared.moved.Moved.{Moved}
 use Rattle.volume_copy.specs.declared.stored.StoredCopy.{StoredCopy}
 use Rattle.volume_copy.proofs.AddedOn.{alone_first, alone_second, can_on, read_none, read_then, whole_on}
-use Rattle.volume_copy.proofs.PairLists.{by_place, pairs_long, pairs_on, pairs_push, place_in, slots_length}
+use Rattle.volume_copy.proofs.PairLists.{by_place, pairs_hold_on, pairs_hold_push, pairs_long, pairs_on, pairs_push, place_in, slots_length}
 use Rattle.volume_copy.proofs.WholeVolumes.{reading_later}
 
 -- one side could not be read
@@ -244,6 +244,35 @@ hold_others {source} {target} {place} {s} {u} can_s can_u s_tells u_tells old ne
       });
     }
 
+-- documents that were read and are the same say the same
+hold_same : {source target : AuditedVolume} {place : ℕ} {s u : DeviceState} → CanBeRead s source → CanBeRead u target
+    → IsTrue s.tells → IsTrue u.tells → (old new : ℕ) → FindsSame source target place s u old new → HoldSame s u old new
+hold_same {source} {target} {place} {s} {u} can_s can_u s_tells u_tells old new finds =
+    let read = finds.read in
+    let there = read.there s_tells in
+    let here = read.here u_tells in
+    record {
+      from_layout = source.volume.geometry;
+      to_layout = target.volume.geometry;
+      from_volume = can_s.is_volume s_tells;
+      to_volume = can_u.is_volume u_tells;
+      d = record { slot = old; id = read.one.identifier.items; body = read.one.body.held };
+      e = record { slot = new; id = read.other.identifier.items; body = read.other.body.held };
+      old_is = refl;
+      new_is = refl;
+      there = held_stands source.volume.geometry s.cells s.image old read.one.identifier.items read.one.body.held
+          (can_s.is_volume s_tells) there.holds;
+      here = held_stands target.volume.geometry u.cells u.image new read.other.identifier.items read.other.body.held
+          (can_u.is_volume u_tells) here.holds;
+      same = record {
+        id = sym finds.same.identifier;
+        body = sym finds.same.body;
+        stamp = read.one.stamp;
+        there = there.stamped;
+        here = subst (λ (x : Option ℕ). IsStampOf target.volume.geometry u.image new x) (sym finds.same.stamp) here.stamped;
+      };
+    }
+
 -- nothing was compared yet
 agree_none : {source target : AuditedVolume} {s u : DeviceState} → CanBeRead s source → CanBeRead u target
     → IsTrue s.tells → IsTrue u.tells → IsWholeVolume s source.done.items → IsWholeVolume u target.done.items → AgreeSoFar s u []
@@ -270,6 +299,7 @@ pub record ComparedSoFar (source target : AuditedVolume) (from now to there : De
   pub to_read : IsOnlyRead to there
   pub count : length moved ≡ place
   pub agree : WhereWhole source target from now to there (AgreeSoFar now there moved)
+  pub same : IsTrue from.tells → IsTrue to.tells → PairsHold now there moved
 
 pub compared_none : {source target : AuditedVolume} {from to : DeviceState} → CanBeRead from source → CanBeRead to target
     → ComparedSoFar source target from from to to [] 0
@@ -278,6 +308,7 @@ compared_none {source} {target} {from} {to} can_s can_u = record {
   to_read = read_none to;
   count = refl;
   agree = λ alone whole_s whole_u. agree_none can_s can_u alone.from_tells alone.to_tells whole_s whole_u;
+  same = λ from_tells to_tells pair among. absurd (omega (arith, among.1));
 }
 
 module _ {source target : AuditedVolume} {from now to there : DeviceState} {moved : List Moved} {place : ℕ}
@@ -290,6 +321,7 @@ module _ {source target : AuditedVolume} {from now to there : DeviceState} {move
   compared_past inside over = record {
     from_read = so_far.from_read;
     to_read = so_far.to_read;
+    same = tt;
     ends = λ alone whole_s whole_u.
         subst (λ (n : ℕ). IsFirstPast now there (slice_index target.done.items n)) so_far.count
         (past (can_on so_far.from_read.called can_s) (can_on so_far.to_read.called can_u)
@@ -306,6 +338,7 @@ module _ {source target : AuditedVolume} {from now to there : DeviceState} {move
   compared_all pairs is at_end = record {
     from_read = so_far.from_read;
     to_read = so_far.to_read;
+    same = subst (λ (l : List Moved). IsTrue from.tells → IsTrue to.tells → PairsHold now there l) (sym is) so_far.same;
     ends = λ alone whole_s whole_u.
         let a = so_far.agree alone whole_s whole_u in
         let whole = whole_on device_there so_far.to_read alone.to_alone whole_u in
@@ -381,6 +414,13 @@ compared_more {moved = moved} can_s can_u so_far device_now device_there device_
       count = length_push moved pair ∙ ap (λ (n : ℕ). n + 1) so_far.count;
       agree = λ alone whole_s whole_u. one_more can_s can_u so_far device_now device_there device_new device_then
           (Ok pair) next alone whole_s whole_u within inside pair next.ends;
+      same = λ from_tells to_tells.
+          let p = called_then so_far.from_read.called next.from_read.called in
+          let q = called_then so_far.to_read.called next.to_read.called in
+          pairs_hold_push moved pair
+          (pairs_hold_on next.from_read.called next.to_read.called moved (so_far.same from_tells to_tells))
+          (hold_same (can_on p can_s) (can_on q can_u) (subst IsTrue (sym p.tells) from_tells)
+          (subst IsTrue (sym q.tells) to_tells) pair.old pair.new next.ends);
     }
 
 -- one was not compared, or differs
@@ -395,6 +435,7 @@ compared_fails {source} {target} {from} {now} {to} {there} {new} {then} {moved} 
     record {
       from_read = read_then so_far.from_read next.from_read;
       to_read = read_then so_far.to_read next.to_read;
+      same = tt;
       ends = go refusal next.ends;
     }
   where

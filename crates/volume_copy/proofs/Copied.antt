@@ -1,5 +1,5 @@
 -- A volume was copied, or it was not.
-use Rattle.std.proofs.Common.{◌≡◌, ◌≤◌, ◌∙◌, ℕ, List, Result, Ok, Err, inl, refl, sym, ap, subst, arith, length}
+use Rattle.std.proofs.Common.{◌≡◌, ◌≤◌, ◌∙◌, ℕ, List, Result, Ok, Err, inl, ⊎_elim, refl, sym, ap, subst, arith, length}
 use Rattle.std.specs.Prelude.{IsTrue}
 use Rattle.std.specs.Global.{Vec}
 use Rattle.std.proofs.lemmas.List.{take_all}
@@ -14,7 +14,7 @@ use Rattle.volume_meaning.specs.Volumes.{IsVolume}
 use Rattle.volume_meaning.proofs.Extending.{stands_on, volume_on}
 use Rattle.volume_meaning.specs.Keeping.{IsKept, Kept}
 use Rattle.volume_meaning.proofs.KeepingLaws.{documents}
-use Rattle.tamper_rules.specs.Settling.{Settled}
+use Rattle.tamper_rules.specs.Settling.{Settled, Sound}
 use Rattle.tamper_rules.proofs.Between.{volume_of}
 use Rattle.tamper_rules.proofs.DocumentLists.{documents_exist, only_one}
 use Rattle.tamper_rules.proofs.GivenUp.{one_layout}
@@ -22,19 +22,20 @@ use Rattle.tamper_rules.proofs.Images.{same_image}
 use Rattle.tamper_rules.proofs.Keeps.{keeps_all}
 use Rattle.worm_device.specs.Calls.{Called}
 use Rattle.worm_device.specs.Counts.{IsStill}
-use Rattle.worm_device.specs.State.{DeviceState, IsDevice}
+use Rattle.worm_device.specs.State.{DeviceState, IsDevice, LeftSince}
 use Rattle.worm_device.proofs.Counting.{still_first, still_second}
 use Rattle.worm_device.proofs.Elapsing.{called_self, called_then}
 use Rattle.ingest_engine.specs.Ingesting.{document_in}
 use Rattle.crash_laws.specs.SettlingSteadiness.{IsSteady}
-use Rattle.volume_copy.specs.Adding.{AddsRest, CopiedSoFar, RestFails}
+use Rattle.volume_copy.specs.Adding.{AddsRest, RestFails}
 use Rattle.volume_copy.specs.Auditing.{AuditsSteady, HasAudited, IsWholeVolume, RefusesVolume, by_reading}
 use Rattle.volume_copy.specs.Beginning.{BeginEnds, BeginsCopy}
 use Rattle.volume_copy.specs.Alone.{AreAlone}
-use Rattle.volume_copy.specs.Copies.{Copies, CopiesWhole, CopyEnds, HasCopied, HasNumbers, IsFirstThroughout, IsKeptThere, IsOfTarget, KeepsAll, by_ingest}
+use Rattle.volume_copy.specs.Copies.{Copies, CopiesWhole, CopyEnds, HasCopied, HasNumbers, IsFirstThroughout, IsKeptThere, IsOfTarget, KeepsAll, RefusesTo, by_format, by_ingest, by_look, by_volume}
 use Rattle.volume_copy.specs.Completing.{IsForRoom, IsCopyUnhindered}
-use Rattle.volume_copy.specs.First.{HoldsFirst, StaysFirst}
-use Rattle.volume_copy.specs.Pairs.{ArePairs}
+use Rattle.volume_copy.specs.First.{HoldsFirst, IsSourceImage, StaysFirst}
+use Rattle.volume_copy.specs.Pairs.{ArePairs, CopiedSoFar}
+use Rattle.volume_copy.specs.Reading.{IsOnlyRead}
 use Rattle.volume_copy.specs.Refusing.{refusal_from}
 use Rattle.volume_copy.specs.Staying.{IsHeldThroughout}
 use Rattle.volume_copy.specs.declared.audited.AuditedVolume.{AuditedVolume}
@@ -55,7 +56,8 @@ not_audited slots lists from from' to refusal called device held audits refuses 
   to_called = called_self to;
   from_held = held;
   to_sound = sound_self to;
-  to_first = λ alone steady holds. first_since to device steady holds (λ since image le left. inl left);
+  to_first = λ alone steady source is holds. first_since to device steady holds (λ since image le left. inl left);
+  same = tt;
   untouched = λ other. read_held device device (read_none to);
   complete = λ free. subst (λ (r : Refusal). IsForRoom (refusal_from r)) (sym (audited free)) tt;
   ends = go refusal refuses;
@@ -153,6 +155,40 @@ module _ {slots lists : ℕ} {from from' to' : DeviceState} {done : List ℕ} (m
   pub has_copied : HasCopied slots lists from from' to' moved
   has_copied = record { keeps = keeps; whole = copies_whole }
 
+-- the image of the source that is meant is the one at exit
+source_now : {source : AuditedVolume} {from audited new x y : DeviceState} → HasAudited from audited source
+    → IsOnlyRead audited new → AreAlone from new x y → (image : Image) → IsSourceImage from new image → image ≡ new.image
+source_now {source} {from} {audited} {new} audit read alone image is = ⊎_elim
+    (λ (here : image ≡ new.image). here)
+    (λ (entry : (sound : Sound from.cells from.image) × (image ≡ sound.after)).
+    entry.1
+    ∙ sym (audit.settles alone.from_tells
+    (still_first audit.called.foreign_writes read.called.foreign_writes alone.from_alone) entry.0)
+    ∙ sym (same_image (read.only
+    (still_second audit.called.foreign_writes read.called.foreign_writes alone.from_alone))))
+    is
+
+-- what is said of that one is said of this
+first_as : (from' to to' : DeviceState) {image : Image} → image ≡ from'.image
+    → (HoldsFirst from'.cells from'.image to.cells to.image → (left : Image) → LeftSince to' to.moment left
+    → HoldsFirst from'.cells from'.image to.cells left)
+    → HoldsFirst from'.cells image to.cells to.image → (left : Image) → LeftSince to' to.moment left
+    → HoldsFirst from'.cells image to.cells left
+first_as from' to to' same first = subst
+    (λ (i : Image). HoldsFirst from'.cells i to.cells to.image → (left : Image) → LeftSince to' to.moment left
+    → HoldsFirst from'.cells i to.cells left) (sym same) first
+
+-- why the target is not written, from an earlier state of the source on
+refuses_from : {slots lists : ℕ} {from mid from' old new : DeviceState} {refusal : Refusal}
+    → (AreAlone from from' old new → AreAlone mid from' old new) → RefusesTo slots lists mid from' old new refusal
+    → RefusesTo slots lists from from' old new refusal
+refuses_from behind (by_look is rose) = by_look is rose
+refuses_from behind (by_format between version called blank of_version formats) =
+    by_format between version called blank of_version formats
+refuses_from behind (by_volume between called refuses) = by_volume between called refuses
+refuses_from behind (by_ingest between id stamp body called of_source next ingests) =
+    by_ingest between id stamp body called of_source (λ alone. next (behind alone)) ingests
+
 -- the source is whole behind its audit
 whole_audited : {source : AuditedVolume} {from audited new x y : DeviceState} → HasAudited from audited source
     → Called audited new → AreAlone from new x y → IsWholeVolume audited source.done.items
@@ -193,8 +229,10 @@ module _ {slots lists : ℕ} {source : AuditedVolume} {from audited from1 to to1
     from_held = held_then device_from device audit.called begins.from_read.called held
         (read_held device device1 begins.from_read);
     to_sound = sound_of begins.to_held;
-    to_first = λ alone steady holds. first_since to1 device_to steady holds
-        (first_begun begins alone steady alone.to_alone refl refl holds);
+    to_first = λ alone steady image is. first_as from1 to to1 (source_now audit begins.from_read alone image is)
+        (λ holds. first_since to1 device_to steady holds
+        (first_begun begins alone steady alone.to_alone refl refl holds));
+    same = tt;
     untouched = λ other. begins.to_held;
     complete = λ free. begins.complete (record {
       alone = behind free.alone;
@@ -207,7 +245,9 @@ module _ {slots lists : ℕ} {source : AuditedVolume} {from audited from1 to to1
       first =
           subst (λ (k : ℕ). HoldsFirst k audited.image to.cells to.image) begins.from_read.called.cells
           (subst (λ (i : Image). HoldsFirst from1.cells i to.cells to.image)
-          (same_image (begins.from_read.only (behind free.alone).from_alone)) free.to_first);
+          (same_image (begins.from_read.only (behind free.alone).from_alone))
+          (subst (λ (i : Image). HoldsFirst from1.cells i to.cells to.image)
+          (source_now audit begins.from_read free.alone free.source free.is_source) free.to_first));
     });
     ends = go refusal begins.ends;
   }
@@ -228,7 +268,7 @@ module _ {slots lists : ℕ} {source : AuditedVolume} {from audited from1 to to1
       go (copies.From r) ends = by_reading (called_then audit.called begins.from_read.called)
           (reading_later audit.called begins.from_read.called r ends)
       go (copies.To refusals.NoMemory) ends = absurd ends
-      go (copies.To r) ends = ends
+      go (copies.To r) ends = refuses_from behind ends
       go r ends = absurd ends
 
   module _ {from2 to2 : DeviceState} (device2 : IsDevice from2) (moved : Vec Moved) (begins : BeginsCopy slots lists source audited from1 to to1 (Ok moved))
@@ -236,17 +276,18 @@ module _ {slots lists : ℕ} {source : AuditedVolume} {from audited from1 to to1
       -- what a crash leaves of the whole
       first_rested : {new : List Moved} {result : Result Unit CopyRefusal}
           → AddsRest source from1 from2 to1 to2 moved.items new result → IsFirstThroughout from from2 to to2
-      first_rested rest alone steady holds =
+      first_rested rest alone steady image is =
           let before = called_then audit.called begins.from_read.called in
           let first = alone_first before rest.from_read.called begins.to_called rest.to_called alone in
           let second = alone_second before rest.from_read.called begins.to_called rest.to_called alone in
           let behind = alone_second audit.called begins.from_read.called (called_self to) begins.to_called first in
           let began = begins.ends behind (whole_audited audit begins.from_read.called first) in
           let same = sym (same_image (rest.from_read.only second.from_alone)) in
-          first_since to2 device_to steady holds
+          first_as from2 to to2 (source_now audit (read_then begins.from_read rest.from_read) alone image is)
+          (λ holds. first_since to2 device_to steady holds
           (first_then to2 begins.to_called
           (first_begun begins first steady first.to_alone (sym rest.from_read.called.cells) same holds)
-          (rest.to_first second (whole1 begins first steady first.to_alone) began.0))
+          (rest.to_first second (whole1 begins first steady first.to_alone) began.0)))
 
       -- the documents that have no pair were not copied
       pub not_rested : (new : List Moved) (refusal : CopyRefusal)
@@ -260,6 +301,7 @@ module _ {slots lists : ℕ} {source : AuditedVolume} {from audited from1 to to1
             (read_held device device2 (read_then begins.from_read rest.from_read));
         to_sound = sound_then begins.to_called rest.to_called (sound_of begins.to_held) rest.to_sound;
         to_first = first_rested rest;
+        same = tt;
         untouched = touched refusal rest.ends;
         complete = λ free.
             let before = called_then audit.called begins.from_read.called in
@@ -279,14 +321,14 @@ module _ {slots lists : ℕ} {source : AuditedVolume} {from audited from1 to to1
           volume2 : IsTrue from2.tells → IsVolume from2.cells from2.image source.volume.geometry
           volume2 = (can_on (called_then begins.from_read.called rest.from_read.called) (can_audited audit)).is_volume
 
-          touched : (r : CopyRefusal) → RestFails source.volume.geometry from1 from2 to1 to2 r → IsOfTarget (Err r)
+          touched : (r : CopyRefusal) → RestFails source moved.items from1 from2 to1 to2 r → IsOfTarget (Err r)
               → IsHeldThroughout to to2
           touched (copies.OtherVolume cell) ends other = absurd ends
           touched (copies.Differs old fresh) ends other = absurd ends
           touched (copies.Longer fresh) ends other = absurd ends
           touched r ends other = absurd other
 
-          go : (r : CopyRefusal) → RestFails source.volume.geometry from1 from2 to1 to2 r
+          go : (r : CopyRefusal) → RestFails source moved.items from1 from2 to1 to2 r
               → CopyEnds slots lists from from2 to to2 (Err r)
           go copies.NoMemory ends = tt
           go (copies.From refusals.NoMemory) ends = absurd ends
@@ -302,6 +344,13 @@ module _ {slots lists : ℕ} {source : AuditedVolume} {from audited from1 to to1
                 holds = ends.ingests.holds tells;
                 stamped = ends.ingests.stamped tells;
               })
+              (λ alone.
+              let before = called_then audit.called begins.from_read.called in
+              let first = alone_first before rest.from_read.called begins.to_called rest.to_called alone in
+              let behind = alone_second audit.called begins.from_read.called (called_self to) begins.to_called first in
+              let whole = whole_audited audit begins.from_read.called first in
+              ends.next (alone_second before rest.from_read.called begins.to_called rest.to_called alone)
+              (whole_on device1 begins.from_read behind.from_alone whole) (begins.ends behind whole).0)
               ends.ingests.ingests
           go r ends = absurd ends
 
@@ -316,6 +365,10 @@ module _ {slots lists : ℕ} {source : AuditedVolume} {from audited from1 to to1
             (read_held device device2 (read_then begins.from_read rest.from_read));
         to_sound = sound_then begins.to_called rest.to_called (sound_of begins.to_held) rest.to_sound;
         to_first = first_rested rest;
+        same = λ from_tells to_tells.
+            let before = called_then audit.called begins.from_read.called in
+            rest.same (subst IsTrue (sym before.tells) from_tells) (subst IsTrue (sym begins.to_called.tells) to_tells)
+            (begins.same (subst IsTrue (sym audit.called.tells) from_tells) to_tells);
         untouched = λ other. absurd other;
         complete = λ free. tt;
         ends = λ alone.

@@ -1,12 +1,17 @@
 -- Lists of documents that are pairs, and one pair more.
-use Rattle.std.proofs.Common.{◌≡◌, ◌≤◌, ◌<◌, ◌∙◌, ℕ, zero, suc, List, [], ◌∷◌, ◌++◌, Some, None, refl, sym, ap, subst, arith, length}
+use Rattle.std.proofs.Common.{◌≡◌, ◌≤◌, ◌<◌, ◌∙◌, ℕ, zero, suc, List, [], ◌∷◌, ◌++◌, Some, None, ⊎_elim, refl, sym, ap, subst, arith, length}
 use Rattle.std.specs.Prelude.{Contains, slice_get, slice_index}
+use Rattle.std.proofs.lemmas.List.Elements.{Contains-push_cases}
 use Rattle.std.proofs.lemmas.Option.{get_or_from_slice_get, slice_get-get_or, slice_get_within}
 use Rattle.cell_types.specs.Image.{Extends, Image}
 use Rattle.cell_types.specs.Layout.{Layout}
-use Rattle.volume_meaning.specs.Documents.{Document}
+use Rattle.volume_meaning.specs.Documents.{Document, Stands}
+use Rattle.volume_meaning.specs.Volumes.{IsVolume}
+use Rattle.volume_meaning.proofs.Extending.{stands_on, volume_on}
 use Rattle.volume_meaning.proofs.Stamps.{stamp_on}
-use Rattle.volume_copy.specs.Pairs.{ArePairs, SaysSame, slots_of}
+use Rattle.worm_device.specs.Calls.{Called}
+use Rattle.worm_device.specs.State.{DeviceState}
+use Rattle.volume_copy.specs.Pairs.{ArePairs, HoldSame, PairsHold, SaysSame, slots_of}
 use Rattle.volume_copy.specs.declared.moved.Moved.{Moved}
 
 -- documents have as many slots
@@ -38,7 +43,7 @@ by_place ds slots k same less = slot_at ds k (slice_index slots k)
     (subst (λ (l : List ℕ). slice_get l k ≡ Some (slice_index slots k)) (sym same) (slice_get-get_or slots k 0 less))
 
 module _ (g h : Layout) where
-  same_on : {from from' to to' : Image} {d e : Document} → Extends from from' → Extends to to'
+  pub same_on : {from from' to to' : Image} {d e : Document} → Extends from from' → Extends to to'
       → SaysSame g h from to d e → SaysSame g h from' to' d e
   same_on {from} {from'} {to} {to'} {d} {e} p q s = record {
     id = s.id;
@@ -133,3 +138,32 @@ module _ (g h : Layout) where
           old_is = rest.old_is;
           new_is = rest.new_is;
         }
+
+-- documents that say the same go on doing so
+pub hold_on : {s t u v : DeviceState} {old new : ℕ} → Called s t → Called u v → HoldSame s u old new → HoldSame t v old new
+hold_on {s} {t} {u} {v} {old} {new} p q is = record {
+  from_layout = is.from_layout;
+  to_layout = is.to_layout;
+  from_volume = subst (λ (k : ℕ). IsVolume k t.image is.from_layout) (sym p.cells) (volume_on p.image is.from_volume);
+  to_volume = subst (λ (k : ℕ). IsVolume k v.image is.to_layout) (sym q.cells) (volume_on q.image is.to_volume);
+  d = is.d;
+  e = is.e;
+  old_is = is.old_is;
+  new_is = is.new_is;
+  there = subst (λ (k : ℕ). Stands k t.image is.d.slot is.d.id is.d.body) (sym p.cells) (stands_on p.image is.there);
+  here = subst (λ (k : ℕ). Stands k v.image is.e.slot is.e.id is.e.body) (sym q.cells) (stands_on q.image is.here);
+  same = same_on is.from_layout is.to_layout p.image q.image is.same;
+}
+
+-- and with them those of all pairs
+pub pairs_hold_on : {s t u v : DeviceState} → Called s t → Called u v → (moved : List Moved) → PairsHold s u moved
+    → PairsHold t v moved
+pairs_hold_on p q moved hold pair among = hold_on p q (hold pair among)
+
+-- and one pair more
+pub pairs_hold_push : {s u : DeviceState} (moved : List Moved) (m : Moved) → PairsHold s u moved
+    → HoldSame s u m.old m.new → PairsHold s u (moved ++ m ∷ [])
+pairs_hold_push {s} {u} moved m hold one pair among = ⊎_elim
+    (λ (before : Contains moved pair). hold pair before)
+    (λ (here : m ≡ pair). subst (λ (x : Moved). HoldSame s u x.old x.new) here one)
+    (Contains-push_cases moved m pair among)

@@ -24,11 +24,13 @@ use Rattle.worm_device.specs.Counts.{IsStill}
 use Rattle.worm_device.specs.State.{DeviceState, IsDevice}
 use Rattle.worm_device.proofs.Counting.{still_first, still_second}
 use Rattle.worm_device.proofs.Elapsing.{called_then}
+use Rattle.worm_device.proofs.Images.{extends_then}
 use Rattle.recovery_engine.specs.Settling.{Settles}
 use Rattle.recovery_engine.specs.declared.settling.Ready.{Ready}
 use Rattle.crash_laws.specs.SettlingSteadiness.{EndsAs}
 use Rattle.crash_laws.proofs.EndedAs.{settling_ends}
-use Rattle.volume_audit.specs.Audits.{AuditEnds, Audits, settled, settling}
+use Rattle.crash_laws.proofs.LookedAt.{looked_ends}
+use Rattle.volume_audit.specs.Audits.{AuditEnds, Audits, SettlesThenAudits, settled, settling}
 use Rattle.volume_audit.specs.Reports.{IsSound}
 use Rattle.volume_audit.specs.declared.report.AuditReport.{AuditReport}
 use Rattle.volume_copy.specs.Auditing.{HasAudited, IsWholeVolume, RefusesVolume, by_audit, by_reading, by_settling}
@@ -213,6 +215,21 @@ module _ {old a b new : DeviceState} {report : AuditReport} (r : Ready) (audits 
         (sym ((called_then settles.called read.called).cells))
         (subst (λ (i : Image). Settled a.cells i) (sym image_a) settled_a)
 
+    lies_a : Extends a.sure a.image
+    lies_a = subst (λ (i : Image). Extends a.sure i) image_a
+        (extends_then (called_then settles.called read.called).sure device.sure)
+
+    -- the audit settled it
+    settles_as : (sound : Sound old.cells old.image) → new.image ≡ sound.after
+    settles_as sound = by_case audits.comes
+      where
+        no_error : (refusal : Refusal) → Ok report ≡ Err refusal → ⊥
+        no_error refusal e = cc
+
+        by_case : SettlesThenAudits old a (Ok report) → new.image ≡ sound.after
+        by_case (settling refusal is settles) = absurd (no_error refusal is)
+        by_case (settled ready has ends) = image_a ∙ (looked_ends old a ready tells has still_a lies_a sound).image
+
     horizon : IsHorizon r.volume.geometry new.image new.image r.horizon
     horizon = subst (λ (i : Image). IsHorizon r.volume.geometry i new.image r.horizon) (sym image_a)
         (subst (λ (i : Image). IsHorizon r.volume.geometry a.image i r.horizon) (sym same_new)
@@ -246,6 +263,7 @@ module _ {old a b new : DeviceState} {report : AuditReport} (r : Ready) (audits 
       is_volume = volume_new;
       done = λ tells place less. (walk.1 (tells_b tells)).done _ (among place less);
       whole = whole;
+      settles = settles_as;
     }
 
 -- whoever refuses, a row of calls was made

@@ -14,10 +14,8 @@ use Rattle.ingest_engine.specs.Ingesting.{Ingests}
 use Rattle.volume_copy.specs.Alone.{AreAlone, AreUnfailed}
 use Rattle.volume_copy.specs.Completing.{AreOfOneVersion, EndsUnhindered}
 use Rattle.volume_copy.specs.First.{StaysFirst}
-use Rattle.cell_types.specs.Image.{IsUnchanged}
-use Rattle.tamper_rules.specs.Settling.{Settled}
 use Rattle.volume_copy.specs.Auditing.{IsWholeVolume}
-use Rattle.volume_copy.specs.Pairs.{AgreeSoFar}
+use Rattle.volume_copy.specs.Pairs.{CopiedSoFar, IsNextToCopy, PairsHold}
 use Rattle.volume_copy.specs.Reading.{IsOnlyRead, ReadingFails}
 use Rattle.volume_copy.specs.Staying.{IsSoundThroughout}
 use Rattle.volume_copy.specs.declared.audited.AuditedVolume.{AuditedVolume}
@@ -59,14 +57,6 @@ AddDocumentEnds source place from from' to to' (Ok pair) =
 AddDocumentEnds source place from from' to to' (Err refusal) =
     AddFails source.volume.geometry (slice_index source.done.items place) from from' to to' refusal
 
--- Nobody else writing, each document of the target has its pair among the first ones of the source; the target is settled,
--- and all of it is sure.
-pub record CopiedSoFar (from to : DeviceState) (moved : List Moved) : Type 0 where
-  pub agree : AgreeSoFar from to moved
-  pub all : length agree.target ≡ length moved
-  pub settled : Settled to.cells to.image
-  pub sure : IsUnchanged to.image to.sure
-
 -- where nobody else writes, the source is whole, and so much was copied
 abbrev pub WhereCopied
     : AuditedVolume → DeviceState → DeviceState → DeviceState → DeviceState → List Moved → Type 0 → Type 0
@@ -91,21 +81,24 @@ pub record AddsNext (source : AuditedVolume) (place : ℕ) (from from' to to' : 
   pub complete : (moved : List Moved) → length moved ≡ place → Completes source from from' to to' moved result
   pub ends : AddDocumentEnds source place from from' to to' result
 
--- an ingest of a document of the source was refused
-pub record IngestRefused (g : Layout) (from old new : DeviceState) (refusal : Refusal) : Type 0 where
+-- an ingest of the next document of the source was refused, where so much had been copied
+pub record IngestRefused (source : AuditedVolume) (moved : List Moved) (from from' old new : DeviceState) (refusal : Refusal)
+    : Type 0 where
   pub between : DeviceState
   pub called : Called old between
   pub slot : ℕ
-  pub ingests : IngestsOf g slot from between new (Err refusal)
+  pub ingests : IngestsOf source.volume.geometry slot from' between new (Err refusal)
+  pub next : WhereCopied source from from' old new moved (IsNextToCopy from' between ingests.id ingests.body)
 
 -- why copying the documents that have no pair was ended
-abbrev pub RestFails : Layout → DeviceState → DeviceState → DeviceState → DeviceState → CopyRefusal → Type 0
-RestFails g from from' to to' NoMemory = ⊤
-RestFails g from from' to to' (From refusals.NoMemory) = ⊥
-RestFails g from from' to to' (From refusal) = ReadingFails from from' refusal
-RestFails g from from' to to' (To refusals.NoMemory) = ⊥
-RestFails g from from' to to' (To refusal) = IngestRefused g from' to to' refusal
-RestFails g from from' to to' refusal = ⊥
+abbrev pub RestFails
+    : AuditedVolume → List Moved → DeviceState → DeviceState → DeviceState → DeviceState → CopyRefusal → Type 0
+RestFails source moved from from' to to' NoMemory = ⊤
+RestFails source moved from from' to to' (From refusals.NoMemory) = ⊥
+RestFails source moved from from' to to' (From refusal) = ReadingFails from from' refusal
+RestFails source moved from from' to to' (To refusals.NoMemory) = ⊥
+RestFails source moved from from' to to' (To refusal) = IngestRefused source moved from from' to to' refusal
+RestFails source moved from from' to to' refusal = ⊥
 
 -- what was copied so far, and then all, under the premises that nobody else writes and that the source is whole
 abbrev pub CopyGoesOn : AuditedVolume → DeviceState → DeviceState → DeviceState → DeviceState → List Moved → List Moved
@@ -120,7 +113,14 @@ abbrev pub RestEnds
 RestEnds source from from' to to' moved moved' (Ok u) =
     (length source.done.items ≤ length moved') × CopyGoesOn source from from' to to' moved moved'
 RestEnds source from from' to to' moved moved' (Err refusal) =
-    RestFails source.volume.geometry from from' to to' refusal
+    RestFails source moved from from' to to' refusal
+
+-- where the documents of the pairs that there were say the same, and both devices tell, so do those of all that there are
+abbrev pub RestHolds : DeviceState → DeviceState → DeviceState → DeviceState → List Moved → List Moved
+    → Result Unit CopyRefusal → Type 0
+RestHolds from from' to to' moved moved' (Ok u) =
+    IsTrue from.tells → IsTrue to.tells → PairsHold from to moved → PairsHold from' to' moved'
+RestHolds from from' to to' moved moved' (Err refusal) = ⊤
 
 pub record AddsRest (source : AuditedVolume) (from from' to to' : DeviceState) (moved moved' : List Moved)
     (result : Result Unit CopyRefusal) : Type 0 where
@@ -129,4 +129,5 @@ pub record AddsRest (source : AuditedVolume) (from from' to to' : DeviceState) (
   pub to_sound : IsSoundThroughout to to'
   pub to_first : WhereCopied source from from' to to' moved (StaysFirst from'.cells from'.image to to')
   pub complete : Completes source from from' to to' moved result
+  pub same : RestHolds from from' to to' moved moved' result
   pub ends : RestEnds source from from' to to' moved moved' result

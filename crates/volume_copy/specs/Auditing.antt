@@ -7,7 +7,7 @@ use Rattle.cell_types.specs.declared.refusal.Refusal.TheVariants.{NoMemory}
 use Rattle.volume_meaning.specs.Documents.{AreDocuments, Document}
 use Rattle.volume_meaning.specs.Slots.{IsDoneSlot}
 use Rattle.volume_meaning.specs.Volumes.{IsVolume}
-use Rattle.tamper_rules.specs.Settling.{Settled}
+use Rattle.tamper_rules.specs.Settling.{Settled, Sound}
 use Rattle.worm_device.specs.Calls.{Called}
 use Rattle.worm_device.specs.Counts.{IsStill}
 use Rattle.worm_device.specs.State.{DeviceState}
@@ -32,7 +32,7 @@ pub record IsWholeVolume (s : DeviceState) (done : List ℕ) : Type 0 where
   pub sure : IsUnchanged s.image s.sure
   pub slots : (documents : List Document) → AreDocuments s.cells s.image documents → slots_of documents ≡ done
 
--- A volume was audited. Its numbers are such ones over every device.
+-- A volume was audited, and is as settling makes it of a sound image. Its numbers are such ones over every device.
 pub record HasAudited (old new : DeviceState) (volume : AuditedVolume) : Type 0 where
   pub called : Called old new
   pub version : volume.volume.version ≡ volume.volume.geometry.version
@@ -44,6 +44,8 @@ pub record HasAudited (old new : DeviceState) (volume : AuditedVolume) : Type 0 
   pub done : IsTrue old.tells → (place : ℕ) → place < length volume.done.items
       → IsDoneSlot volume.volume.geometry new.image (slice_index volume.done.items place)
   pub whole : IsTrue old.tells → IsStill old.foreign_writes new.foreign_writes → IsWholeVolume new volume.done.items
+  pub settles : IsTrue old.tells → IsStill old.foreign_writes new.foreign_writes → (sound : Sound old.cells old.image)
+      → new.image ≡ sound.after
 
 -- An audit of a steady volume, with nobody else writing and no call that fails, is refused for want of memory alone.
 abbrev pub AuditsSteady : DeviceState → DeviceState → Result AuditedVolume Refusal → Type 0

@@ -9,13 +9,13 @@ use Rattle.cell_types.specs.declared.refusal.Refusal.TheVariants as refusals
 use Rattle.volume_meaning.specs.Volumes.{IsVolume, volume_record}
 use Rattle.worm_device.specs.Calls.{Called}
 use Rattle.worm_device.specs.State.{DeviceState}
-use Rattle.volume_copy.specs.Adding.{CopiedSoFar}
 use Rattle.volume_copy.specs.Auditing.{IsWholeVolume}
 use Rattle.crash_laws.specs.SettlingSteadiness.{IsSteady}
 use Rattle.volume_copy.specs.Alone.{AreAlone, AreUnfailed}
 use Rattle.volume_copy.specs.Completing.{EndsUnhindered}
 use Rattle.volume_copy.specs.First.{HoldsFirst}
 use Rattle.volume_copy.specs.Copies.{HasNumbers, HoldOthers, IsFirstPast, IsFirstToDiffer, IsOtherVolume, RefusesTo}
+use Rattle.volume_copy.specs.Pairs.{AnsweredHold, CopiedSoFar}
 use Rattle.volume_copy.specs.Reading.{IsOnlyRead, ReadingFails}
 use Rattle.volume_copy.specs.Staying.{IsHeldThroughout}
 use Rattle.volume_copy.specs.declared.audited.AuditedVolume.{AuditedVolume}
@@ -61,7 +61,7 @@ BeginEnds slots lists source from from' to to' (Err NoMemory) = ⊤
 BeginEnds slots lists source from from' to to' (Err (From refusals.NoMemory)) = ⊥
 BeginEnds slots lists source from from' to to' (Err (From refusal)) = ReadingFails from from' refusal
 BeginEnds slots lists source from from' to to' (Err (To refusals.NoMemory)) = ⊥
-BeginEnds slots lists source from from' to to' (Err (To refusal)) = RefusesTo slots lists from' to to' refusal
+BeginEnds slots lists source from from' to to' (Err (To refusal)) = RefusesTo slots lists from from' to to' refusal
 BeginEnds slots lists source from from' to to' (Err refusal) = ⊥
 
 -- Nothing hinders it: nobody else writes, no call fails, the source is whole, and the target is steady and has no written
@@ -78,6 +78,7 @@ pub record BeginsCopy (slots lists : ℕ) (source : AuditedVolume) (from from' t
   pub from_read : IsOnlyRead from from'
   pub to_called : Called to to'
   pub to_held : IsHeldThroughout to to'
+  pub same : AnsweredHold from from' to to' result
   pub complete : IsCopyFree source from from' to to' → EndsUnhindered result
   pub ends : BeginEnds slots lists source from from' to to' result
 

@@ -5,10 +5,10 @@ use Rattle.cell_types.specs.declared.refusal.CopyRefusal.{CopyRefusal}
 use Rattle.cell_types.specs.declared.refusal.CopyRefusal.TheVariants.{Differs, From, Longer, NoMemory, To}
 use Rattle.cell_types.specs.declared.refusal.Refusal.TheVariants as refusals
 use Rattle.worm_device.specs.State.{DeviceState}
-use Rattle.volume_copy.specs.Adding.{CopiedSoFar}
 use Rattle.volume_copy.specs.Auditing.{IsWholeVolume}
 use Rattle.volume_copy.specs.Alone.{AreAlone}
 use Rattle.volume_copy.specs.Copies.{HoldOthers, IsFirstPast, IsFirstToDiffer}
+use Rattle.volume_copy.specs.Pairs.{AnsweredHold, CopiedSoFar}
 use Rattle.volume_copy.specs.Reading.{HoldsCopy, IsOnlyRead, ReadingFails}
 use Rattle.volume_copy.specs.declared.audited.AuditedVolume.{AuditedVolume}
 use Rattle.volume_copy.specs.declared.moved.Moved.{Moved}
@@ -85,4 +85,5 @@ pub record ComparesAll (source target : AuditedVolume) (from from' to to' : Devi
     (result : Result (Vec Moved) CopyRefusal) : Type 0 where
   pub from_read : IsOnlyRead from from'
   pub to_read : IsOnlyRead to to'
+  pub same : AnsweredHold from from' to to' result
   pub ends : CompareVolumesEnds source target from from' to to' result

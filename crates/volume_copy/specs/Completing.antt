@@ -1,5 +1,6 @@
 -- What a copy answers that nothing hinders.
 use Rattle.std.specs.Prelude.{◌≡◌, Result, Ok, Err, ⊤}
+use Rattle.cell_types.specs.Image.{Image}
 use Rattle.cell_types.specs.Layout.{Layout}
 use Rattle.cell_types.specs.declared.refusal.CopyRefusal.{CopyRefusal}
 use Rattle.cell_types.specs.declared.refusal.CopyRefusal.TheVariants.{NoMemory, OtherVolume, To}
@@ -9,7 +10,7 @@ use Rattle.tamper_rules.specs.Settling.{Sound}
 use Rattle.worm_device.specs.State.{DeviceState}
 use Rattle.crash_laws.specs.SettlingSteadiness.{IsSteady}
 use Rattle.volume_copy.specs.Alone.{AreAlone, AreUnfailed}
-use Rattle.volume_copy.specs.First.{HoldsFirst}
+use Rattle.volume_copy.specs.First.{HoldsFirst, IsSourceImage}
 
 -- Nobody else writes on either device, and no call of them fails. The source is a sound volume, the target has no written
 -- cell or holds the first documents of the source, and whatever a crash leaves of either is blank or sound.
@@ -19,7 +20,9 @@ pub record IsCopyUnhindered (from from' to to' : DeviceState) : Type 0 where
   pub from_sound : Sound from.cells from.image
   pub from_steady : IsSteady from
   pub to_steady : IsSteady to
-  pub to_first : HoldsFirst from'.cells from'.image to.cells to.image
+  pub source : Image
+  pub is_source : IsSourceImage from from' source
+  pub to_first : HoldsFirst from'.cells source to.cells to.image
 
 -- Why such a copy is refused: want of memory, a target that is another volume, or one that lacks the room.
 abbrev pub IsForRoom : CopyRefusal → Type 0

@@ -24,8 +24,8 @@ use Rattle.crash_laws.specs.SettlingSteadiness.{IsSteady}
 use Rattle.volume_copy.specs.Auditing.{RefusesVolume}
 use Rattle.volume_copy.specs.Alone.{AreAlone}
 use Rattle.volume_copy.specs.Completing.{EndsUnhindered, IsCopyUnhindered}
-use Rattle.volume_copy.specs.First.{HoldsFirst}
-use Rattle.volume_copy.specs.Pairs.{AgreeSoFar, ArePairs, SaysSame}
+use Rattle.volume_copy.specs.First.{HoldsFirst, IsSourceImage}
+use Rattle.volume_copy.specs.Pairs.{AgreeSoFar, AnsweredHold, ArePairs, IsNextToCopy, SaysSame}
 use Rattle.volume_copy.specs.Staying.{IsHeldThroughout, IsSoundThroughout}
 use Rattle.volume_copy.specs.declared.moved.Moved.{Moved}
 
@@ -84,19 +84,22 @@ pub record IsOfSource (from : DeviceState) (id : List ℕ) (stamp : Option ℕ) 
   pub stamped : IsStampOf layout from.image slot stamp
 
 -- Why the target is not written. One whose cell 0 is blank is formatted with these numbers and the source's version, and
--- another is audited and read; then documents of the source are ingested.
-pub data RefusesTo (slots lists : ℕ) (from' old new : DeviceState) (refusal : Refusal) : Type 0 where
+-- another is audited and read; then documents of the source are ingested. Where nobody else writes, each document of the
+-- target has its pair by then, and the one that is ingested is the next: a target with other documents, or with more, is
+-- never refused by an ingest.
+pub data RefusesTo (slots lists : ℕ) (from from' old new : DeviceState) (refusal : Refusal) : Type 0 where
   by_look : refusal ≡ refusals.DeviceFault → Rose old.faults new.faults
-      → RefusesTo slots lists from' old new refusal
+      → RefusesTo slots lists from from' old new refusal
   by_format : (between : DeviceState) (version : ℕ) → Called old between
       → (IsTrue between.tells → between.image 0 ≡ None) → IsOfVersion from' version
       → Formats (record { slots = slots; lists = lists; cells = between.cells; version = version }) between new (Err refusal)
-      → RefusesTo slots lists from' old new refusal
+      → RefusesTo slots lists from from' old new refusal
   by_volume : (between : DeviceState) → Called old between → RefusesVolume between new refusal
-      → RefusesTo slots lists from' old new refusal
+      → RefusesTo slots lists from from' old new refusal
   by_ingest : (between : DeviceState) (id : List ℕ) (stamp : Option ℕ) (body : List ℕ) → Called old between
-      → (IsTrue from'.tells → IsOfSource from' id stamp body) → Ingests id stamp body between new (Err refusal)
-      → RefusesTo slots lists from' old new refusal
+      → (IsTrue from'.tells → IsOfSource from' id stamp body) → (AreAlone from from' old new → IsNextToCopy from' between id body)
+      → Ingests id stamp body between new (Err refusal)
+      → RefusesTo slots lists from from' old new refusal
 
 -- The target's cell 0 holds a volume cell that states the device's size, and other slots or lists, or another version than
 -- the source has. Nothing was written there.
@@ -153,7 +156,7 @@ CopyEnds slots lists from from' to to' (Ok moved) =
 CopyEnds slots lists from from' to to' (Err (From refusals.NoMemory)) = ⊥
 CopyEnds slots lists from from' to to' (Err (From refusal)) = RefusesVolume from from' refusal
 CopyEnds slots lists from from' to to' (Err (To refusals.NoMemory)) = ⊥
-CopyEnds slots lists from from' to to' (Err (To refusal)) = RefusesTo slots lists from' to to' refusal
+CopyEnds slots lists from from' to to' (Err (To refusal)) = RefusesTo slots lists from from' to to' refusal
 CopyEnds slots lists from from' to to' (Err (OtherVolume cell)) = IsOtherVolume slots lists from' to to' cell
 CopyEnds slots lists from from' to to' (Err (Differs old new)) =
     (IsTrue from.tells → IsTrue to.tells → HoldOthers from' to' old new)
@@ -170,18 +173,21 @@ IsOfTarget (Err (Differs old new)) = ⊤
 IsOfTarget (Err (Longer new)) = ⊤
 IsOfTarget (Err refusal) = ⊥
 
--- Whatever a crash could leave of the target, at any moment of the copy, holds the first documents of the source, where
--- nobody else writes, and the target was steady and held such ones at entry.
+-- Whatever a crash could leave of the target, at any moment of the copy, holds the first documents of the source, as it
+-- stands at exit or as settling makes it at entry, where nobody else writes, and the target was steady and held such ones
+-- at entry.
 abbrev pub IsFirstThroughout : DeviceState → DeviceState → DeviceState → DeviceState → Type 0
 IsFirstThroughout from from' to to' =
-    AreAlone from from' to to' → IsSteady to → HoldsFirst from'.cells from'.image to.cells to.image
-    → (image : Image) → LeftSince to' to.moment image → HoldsFirst from'.cells from'.image to.cells image
+    AreAlone from from' to to' → IsSteady to → (source : Image) → IsSourceImage from from' source
+    → HoldsFirst from'.cells source to.cells to.image
+    → (image : Image) → LeftSince to' to.moment image → HoldsFirst from'.cells source to.cells image
 
 -- What it means that a volume is copied, or why it is not. Where nobody else writes, what a crash leaves of the source or of
 -- the target, from a steady device on, is blank or sound at each moment; the source holds the documents that it held; and
--- the target holds the first ones of the source, so that a copy that was stopped is run again. A target that is another
--- volume or has other documents keeps just those that it held. A copy that nothing hinders is done, or refused for want of
--- memory or of room.
+-- the target holds the first ones of the source, so that a copy that was stopped is run again. Whoever else writes, the
+-- documents of each pair that is answered stand on both devices and say the same. A target that is another volume or has
+-- other documents keeps just those that it held. A copy that nothing hinders is done, or refused for want of memory or of
+-- room.
 pub record Copies (slots lists : ℕ) (from from' to to' : DeviceState) (result : Result (Vec Moved) CopyRefusal) : Type 0
   where
     pub from_called : Called from from'
@@ -189,6 +195,7 @@ pub record Copies (slots lists : ℕ) (from from' to to' : DeviceState) (result 
     pub from_held : IsHeldThroughout from from'
     pub to_sound : IsSoundThroughout to to'
     pub to_first : IsFirstThroughout from from' to to'
+    pub same : AnsweredHold from from' to to' result
     pub untouched : IsOfTarget result → IsHeldThroughout to to'
     pub complete : IsCopyUnhindered from from' to to' → EndsUnhindered result
     pub ends : CopyEnds slots lists from from' to to' result

@@ -4,7 +4,7 @@ use Rattle.cell_types.specs.Image.{Image}
 use Rattle.cell_types.specs.Layout.{Layout}
 use Rattle.volume_meaning.specs.Documents.{AreDocuments, Document}
 use Rattle.volume_meaning.specs.Volumes.{IsVolume}
-use Rattle.tamper_rules.specs.Settling.{Held}
+use Rattle.tamper_rules.specs.Settling.{Held, Sound}
 use Rattle.worm_device.specs.State.{DeviceState, LeftSince}
 use Rattle.volume_copy.specs.Pairs.{ArePairs}
 use Rattle.volume_copy.specs.declared.moved.Moved.{Moved}
@@ -16,6 +16,11 @@ pub data HoldsFirst (more : ℕ) (from : Image) (cells : ℕ) (image : Image) : 
   first : (g h : Layout) (source target : List Document) (moved : List Moved) → IsVolume more from g
       → IsVolume cells image h → AreDocuments more from source → Held cells image target
       → ArePairs g h from image target moved source → HoldsFirst more from cells image
+
+-- The image is that of the source at exit; or it is what settling makes of the one at entry, where that is sound. These
+-- are one where settling the source did not fail and nobody else wrote.
+abbrev pub IsSourceImage : DeviceState → DeviceState → Image → Type 0
+IsSourceImage from from' image = (image ≡ from'.image) ⊎ ((sound : Sound from.cells from.image) × (image ≡ sound.after))
 
 -- so it is of whatever a crash could leave from old on, and could not before
 abbrev pub StaysFirst : ℕ → Image → DeviceState → DeviceState → Type 0

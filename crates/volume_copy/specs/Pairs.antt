@@ -1,10 +1,13 @@
 -- What it means that documents of one volume are those of another.
-use Rattle.std.specs.Prelude.{◌≡◌, ◌≤◌, ℕ, List, [], ◌∷◌, length, take, Option}
-use Rattle.cell_types.specs.Image.{Image}
+use Rattle.std.specs.Prelude.{◌≡◌, ◌≤◌, ℕ, List, [], ◌∷◌, length, take, slice_get, Contains, Option, Some, Result, Ok, Err, IsTrue, ⊤}
+use Rattle.std.specs.Global.{Vec}
+use Rattle.cell_types.specs.Image.{Image, IsUnchanged}
 use Rattle.cell_types.specs.Layout.{Layout}
-use Rattle.volume_meaning.specs.Documents.{AreDocuments, Document}
+use Rattle.cell_types.specs.declared.refusal.CopyRefusal.{CopyRefusal}
+use Rattle.volume_meaning.specs.Documents.{AreDocuments, Document, Stands}
 use Rattle.volume_meaning.specs.Slots.{IsStampOf}
 use Rattle.volume_meaning.specs.Volumes.{IsVolume}
+use Rattle.tamper_rules.specs.Settling.{Settled}
 use Rattle.worm_device.specs.State.{DeviceState}
 use Rattle.volume_copy.specs.declared.moved.Moved.{Moved}
 
@@ -31,6 +34,30 @@ ArePairs g h from to (e ∷ target) (m ∷ moved) [] = ⊥
 ArePairs g h from to (e ∷ target) (m ∷ moved) (d ∷ source) =
     SaysSame g h from to d e × (m.old ≡ d.slot) × (m.new ≡ e.slot) × ArePairs g h from to target moved source
 
+-- the documents that these slots hold, in the volumes of two devices, say the same
+pub record HoldSame (from to : DeviceState) (old new : ℕ) : Type 0 where
+  pub from_layout : Layout
+  pub to_layout : Layout
+  pub from_volume : IsVolume from.cells from.image from_layout
+  pub to_volume : IsVolume to.cells to.image to_layout
+  pub d : Document
+  pub e : Document
+  pub old_is : old ≡ d.slot
+  pub new_is : new ≡ e.slot
+  pub there : Stands from.cells from.image d.slot d.id d.body
+  pub here : Stands to.cells to.image e.slot e.id e.body
+  pub same : SaysSame from_layout to_layout from.image to.image d e
+
+-- the documents of each pair do
+abbrev pub PairsHold : DeviceState → DeviceState → List Moved → Type 0
+PairsHold from to moved = (pair : Moved) → Contains moved pair → HoldSame from to pair.old pair.new
+
+-- those of each pair that is answered do, where both devices tell
+abbrev pub AnsweredHold
+    : DeviceState → DeviceState → DeviceState → DeviceState → Result (Vec Moved) CopyRefusal → Type 0
+AnsweredHold from from' to to' (Ok moved) = IsTrue from.tells → IsTrue to.tells → PairsHold from' to' moved.items
+AnsweredHold from from' to to' (Err refusal) = ⊤
+
 -- Two devices hold volumes, and as many first documents of the one as there are pairs say the same as the first ones of
 -- the other.
 pub record AgreeSoFar (from to : DeviceState) (moved : List Moved) : Type 0 where
@@ -44,3 +71,20 @@ pub record AgreeSoFar (from to : DeviceState) (moved : List Moved) : Type 0 wher
   pub these : AreDocuments to.cells to.image target
   pub some : length moved ≤ length target
   pub pairs : ArePairs from_layout to_layout from.image to.image (take (length moved) target) moved source
+
+-- Nobody else writing, each document of the target has its pair among the first ones of the source; the target is settled,
+-- and all of it is sure.
+pub record CopiedSoFar (from to : DeviceState) (moved : List Moved) : Type 0 where
+  pub agree : AgreeSoFar from to moved
+  pub all : length agree.target ≡ length moved
+  pub settled : Settled to.cells to.image
+  pub sure : IsUnchanged to.image to.sure
+
+-- Each document of the target has its pair, and the next one of the source has this identifier and this body.
+pub record IsNextToCopy (from to : DeviceState) (id body : List ℕ) : Type 0 where
+  pub moved : List Moved
+  pub copied : CopiedSoFar from to moved
+  pub next : Document
+  pub next_is : slice_get copied.agree.source (length moved) ≡ Some next
+  pub id_is : id ≡ next.id
+  pub body_is : body ≡ next.body

@@ -16,9 +16,11 @@
 //! first ones of the source; the rest is ingested. So a copy that was stopped is run again, and so is one whose source
 //! has grown since.
 //!
-//! **What is promised**: whatever somebody else writes, a refusal names its cause on the device that it comes from. Where
-//! nobody else writes, a copy that ends well leaves a settled target, all of it sure, with just the documents of the source
-//! in order; and each document that was kept in the source at the beginning is kept there (`HasCopied`). Whatever a crash
+//! **What is promised**: whatever somebody else writes, a refusal names its cause on the device that it comes from, and the
+//! documents of each pair that is answered stand on both devices and say the same (`HoldSame`). Where nobody else writes, a
+//! copy that ends well leaves a settled target, all of it sure, with just the documents of the source in order; and each
+//! document that was kept in the source at the beginning is kept there (`HasCopied`). An ingest is refused only behind
+//! pairs that agree, and of the next document (`IsNextToCopy`). Whatever a crash
 //! leaves of either device is blank or sound, at each moment and at every answer (`IsSoundThroughout`), and what it leaves
 //! of the target holds the first documents of the source (`IsFirstThroughout`). Where no call fails besides, a copy is
 //! done, or refused because the target is another volume, or lacks the room, or for want of memory (`IsCopyUnhindered`). **Not

@@ -49,4 +49,5 @@ returns-clause-ends g c =
     (g.V.View.seen c.slot_part.new.view) (g.V.View.seen c.stamp_of.new.view) c.slot_part.ensures.viewed c.in-Some.part
     (rw c.slot_of-slot.ensures at (rw c.in-Some.is at c.in_ok-part.ensures.ends))
     (omega (arith, c.if-slot-min.false, c.min.ensures, c.slots.ensures.slots, c.slot_of-slot.ensures))
+    (omega (arith, c.if-slot-min.false, c.min.ensures, c.slots.ensures.slots, c.slot_of-slot.ensures))
     (rw (c.is_of.ensures.yes c.if-not-is_of.false) at (rw c.slot_of-slot.ensures at c.in_ok-stamp.ensures))

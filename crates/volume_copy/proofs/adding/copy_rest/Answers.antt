@@ -18,9 +18,12 @@ returns-in-Err g c =
           c.loop-place.invariant.to_sound c.in-Err.ensures.to_sound;
       to_first = rest_first c.requires.source c.loop-place.invariant (g.met.D.Device.proper c.loop-place.from)
           (Err c.in-Err.refusal) c.in-Err.ensures;
+      same = tt;
       complete = rest_complete c.requires.source c.loop-place.invariant (g.met.D.Device.proper c.loop-place.from)
           c.in-Err.refusal c.in-Err.ensures;
-      ends = rest_fails c.requires.source c.loop-place.invariant c.in-Err.refusal c.in-Err.ensures;
+      ends = rest_fails c.requires.source c.loop-place.invariant (g.met.D.Device.proper c.loop-place.from)
+          (g.met.E.Device.proper c.loop-place.to) (g.met.E.Device.proper c.copy_next.new.to)
+          (omega (arith, c.loop-place-test.true, c.len-place-end.ensures)) c.in-Err.refusal c.in-Err.ensures;
     }
 
 -- there was no memory for its pair
@@ -33,6 +36,7 @@ returns-in_default g c =
           c.loop-place.invariant.to_sound c.in-Ok.ensures.to_sound;
       to_first = rest_first c.requires.source c.loop-place.invariant (g.met.D.Device.proper c.loop-place.from)
           (Ok c.in-Ok.pair) c.in-Ok.ensures;
+      same = tt;
       complete = λ alone whole so unfailed version. tt;
       ends = tt;
     }

@@ -29,6 +29,23 @@ returns-in_err-stamp-clause-ends g c =
     (viewed_then c.identifier_of.ensures.viewed c.body_of.ensures.viewed) c.stamp_for.ensures.viewed refusal
     c.in_err-stamp.ensures.ends)
 
+-- each reads on in turn
+pub returns-in_err-body-clause-viewed : goal.returns-in_err-body-clause-viewed
+returns-in_err-body-clause-viewed g c =
+    viewed_then c.identifier_of.ensures.viewed c.body_of.ensures.viewed
+
+pub returns-in_err-stamp-clause-viewed : goal.returns-in_err-stamp-clause-viewed
+returns-in_err-stamp-clause-viewed g c =
+    viewed_then c.identifier_of.ensures.viewed (viewed_then c.body_of.ensures.viewed c.stamp_for.ensures.viewed)
+
+pub returns-then-not-is_body-clause-viewed : goal.returns-then-not-is_body-clause-viewed
+returns-then-not-is_body-clause-viewed g c =
+    viewed_then c.identifier_of.ensures.viewed (viewed_then c.body_of.ensures.viewed c.stamp_for.ensures.viewed)
+
+pub returns-clause-viewed : goal.returns-clause-viewed
+returns-clause-viewed g c =
+    viewed_then c.identifier_of.ensures.viewed (viewed_then c.body_of.ensures.viewed c.stamp_for.ensures.viewed)
+
 pub returns-clause-ends : goal.returns-clause-ends
 returns-clause-ends g c = (
   search (rules, c.is_identifier.ensures, c.if-not-is_identifier.false),
