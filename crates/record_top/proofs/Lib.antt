@@ -3,4 +3,5 @@ pub mod Asking
 pub mod Exercises
 pub mod Keeping
 pub mod Replays
+pub mod Running
 pub mod Steadily

@@ -1,10 +1,11 @@
 -- The command `copy`: it copies a volume to another device, and puts out where its documents were and where they are.
-use Rattle.std.specs.Prelude.{◌≡◌, ◌++◌, ℕ, List, [], ◌∷◌, codes, length, Result, Ok, Err}
+use Rattle.std.specs.Prelude.{◌≡◌, ◌++◌, ◌↔◌, ℕ, List, [], ◌∷◌, codes, length, Result, Ok, Err}
 use Rattle.std.specs.Fmt.{decimal}
 use Rattle.std.specs.Global.{Vec}
 use Rattle.cell_types.specs.declared.geometry.TheConstants.{MAX_LISTS, MAX_SLOTS}
 use Rattle.cell_types.specs.declared.refusal.CopyRefusal.{CopyRefusal}
-use Rattle.cell_types.specs.declared.refusal.CopyRefusal.TheVariants.{NoMemory, SinkFault}
+use Rattle.cell_types.specs.declared.refusal.CopyRefusal.TheVariants.{NoMemory, SinkFault, Usage}
+use Rattle.worm_device.specs.Calls.{Called}
 use Rattle.worm_device.specs.State.{DeviceState}
 use Rattle.host_ports.specs.Sinks.{SinkState, Gets, PutsPart}
 use Rattle.volume_copy.specs.Copies.{Copies}
@@ -58,3 +59,15 @@ pub record DoesCopy (slots lists : ℕ) (from from' to to' : DeviceState) (old n
   pub answer : Result (Vec Moved) CopyRefusal
   pub copies : Copies slots lists from from' to to' answer
   pub tells : TellsCopy answer old new result
+
+-- What a call with these words does to both devices and the sink, and how it ends.
+pub record RunsCopy (words : List (List ℕ)) (from from' to to' : DeviceState) (old new : SinkState)
+    (result : Result Unit CopyRefusal) : Type 0 where
+  -- Whatever the words are, what is written on either device stays, and what is sure.
+  pub from_called : Called from from'
+  pub to_called : Called to to'
+  -- Usage comes exactly where the words ask for no copy, and then nothing is done.
+  pub usage : (result ≡ Err Usage) ↔ AsksNoCopy words
+  pub unused : result ≡ Err Usage → (from' ≡ from) × (to' ≡ to) × (new ≡ old)
+  -- The copy that the words ask for is made, and told; or it ends for a cause that is named.
+  pub does : (slots lists : ℕ) → AsksToCopy words slots lists → DoesCopy slots lists from from' to to' old new result

@@ -3,3 +3,4 @@ pub mod Copying
 pub mod Exercising
 pub mod Files
 pub mod Replaying
+pub mod Runs

@@ -1,12 +1,10 @@
 //! The call that a program makes.
-ghost use Rattle.std.specs.Prelude.{◌≡◌, ◌↔◌, map};
+ghost use Rattle.std.specs.Prelude.{map};
 ghost use Rattle.std.specs.String.{string_bytes};
-ghost use Rattle.worm_device.specs.Calls.{Called};
-ghost use Rattle.command_laws.specs.Begins.{BeginsSteady};
-ghost use Rattle.command_line.specs.Requests.{Asks, AsksNothing, IsAskedFor, Request, request_of};
-ghost use Rattle.record_top.specs.Commands.{Does, IsAnswered, IsUnhindered};
+ghost use Rattle.command_line.specs.Requests.{IsAskedFor, request_of};
+ghost use Rattle.record_top.specs.Commands.{Does};
+ghost use Rattle.record_top.specs.Runs.{Runs};
 ghost use Rattle.volume_commands.specs.Ports.{ports_of};
-ghost use Rattle.volume_commands.specs.Steadiness.{LeavesWhole};
 
 use crate::exercising::exercise_volume;
 use crate::replay::replay_script;
@@ -20,7 +18,7 @@ use volume_commands::{
 };
 use worm_device::Device;
 
-/// Carries out the command that the words ask for, or refuses.
+/// Carries out the command that the words ask for, or refuses. `specs/Runs.antt` says what is promised of it.
 pub fn run<D: Device, S: Source, K: Sink>(
     alloc: Global,
     words: &[String],
@@ -28,29 +26,7 @@ pub fn run<D: Device, S: Source, K: Sink>(
     source: &mut S,
     sink: &mut K,
 ) -> Outcome
-    // Whatever the words are, what is written on the device stays, and what is sure.
-    ensures called { Called (D.state device.old) (D.state device.new) }
-
-    // Usage comes exactly where the words ask for nothing, and then nothing is done.
-    ensures usage { (result ≡ Err Refusal.Usage) ↔ AsksNothing (map string_bytes words.now) }
-    ensures unused { result ≡ Err Refusal.Usage → (D.state device.new ≡ D.state device.old)
-        × (S.state source.new ≡ S.state source.old) × (K.state sink.new ≡ K.state sink.old) }
-
-    // Whatever the words ask for is done, and ends for a cause that is named.
-    ensures does { (request : Request) → Asks (map string_bytes words.now) request → Does request
-        (ports_of (D.state device.old) (S.state source.old) (K.state sink.old))
-        (ports_of (D.state device.new) (S.state source.new) (K.state sink.new)) result }
-
-    // Where nothing hinders what they ask for, it is done; or no memory was to be had, no document has the identifier, or
-    // its receipt would have too many cells.
-    ensures complete { (request : Request) → Asks (map string_bytes words.now) request → IsUnhindered request
-        (ports_of (D.state device.old) (S.state source.old) (K.state sink.old))
-        (ports_of (D.state device.new) (S.state source.new) (K.state sink.new)) → IsAnswered request result }
-
-    // From a steady device on, where nobody else writes, a crash leaves at every moment what settling makes whole; and
-    // behind the command just the documents stand that should, of which the queries tell.
-    ensures steady { (request : Request) → Asks (map string_bytes words.now) request
-        → BeginsSteady (D.state device.old) (D.state device.new) → LeavesWhole request
+    ensures { Runs (map string_bytes words.now)
         (ports_of (D.state device.old) (S.state source.old) (K.state sink.old))
         (ports_of (D.state device.new) (S.state source.new) (K.state sink.new)) result }
 {
@@ -66,18 +42,7 @@ pub fn run_metered<D: Device, S: Source, K: Sink, M: Meter>(
     sink: &mut K,
     meter: &mut M,
 ) -> Outcome
-    ensures called { Called (D.state device.old) (D.state device.new) }
-    ensures usage { (result ≡ Err Refusal.Usage) ↔ AsksNothing (map string_bytes words.now) }
-    ensures unused { result ≡ Err Refusal.Usage → (D.state device.new ≡ D.state device.old)
-        × (S.state source.new ≡ S.state source.old) × (K.state sink.new ≡ K.state sink.old) }
-    ensures does { (request : Request) → Asks (map string_bytes words.now) request → Does request
-        (ports_of (D.state device.old) (S.state source.old) (K.state sink.old))
-        (ports_of (D.state device.new) (S.state source.new) (K.state sink.new)) result }
-    ensures complete { (request : Request) → Asks (map string_bytes words.now) request → IsUnhindered request
-        (ports_of (D.state device.old) (S.state source.old) (K.state sink.old))
-        (ports_of (D.state device.new) (S.state source.new) (K.state sink.new)) → IsAnswered request result }
-    ensures steady { (request : Request) → Asks (map string_bytes words.now) request
-        → BeginsSteady (D.state device.old) (D.state device.new) → LeavesWhole request
+    ensures { Runs (map string_bytes words.now)
         (ports_of (D.state device.old) (S.state source.old) (K.state sink.old))
         (ports_of (D.state device.new) (S.state source.new) (K.state sink.new)) result }
 {

@@ -14,10 +14,9 @@
 //! shows the file.
 //!
 //! `volume_copy` copies and says when each refusal comes; `specs/Copying.antt` says what the command does.
-ghost use Rattle.std.specs.Prelude.{◌≡◌, ◌↔◌, ℕ, map};
+ghost use Rattle.std.specs.Prelude.{map};
 ghost use Rattle.std.specs.String.{string_bytes};
-ghost use Rattle.worm_device.specs.Calls.{Called};
-ghost use Rattle.record_top.specs.Copying.{AsksNoCopy, AsksToCopy, DoesCopy};
+ghost use Rattle.record_top.specs.Copying.{DoesCopy, RunsCopy};
 
 use crate::copy_text::text_of;
 use crate::copy_words::{Numbers, numbers_of};
@@ -41,19 +40,8 @@ pub fn run_two<D: Device, E: Device, K: Sink>(
     to: &mut E,
     sink: &mut K,
 ) -> Result<(), CopyRefusal>
-    // Whatever the words are, what is written on either device stays, and what is sure.
-    ensures from_called { Called (D.state from.old) (D.state from.new) }
-    ensures to_called { Called (E.state to.old) (E.state to.new) }
-
-    // Usage comes exactly where the words ask for no copy, and then nothing is done.
-    ensures usage { (result ≡ Err CopyRefusal.Usage) ↔ AsksNoCopy (map string_bytes words.now) }
-    ensures unused { result ≡ Err CopyRefusal.Usage → (D.state from.new ≡ D.state from.old)
-        × (E.state to.new ≡ E.state to.old) × (K.state sink.new ≡ K.state sink.old) }
-
-    // The copy that the words ask for is made, and told; or it ends for a cause that is named.
-    ensures does { (slots lists : ℕ) → AsksToCopy (map string_bytes words.now) slots lists
-        → DoesCopy slots lists (D.state from.old) (D.state from.new) (E.state to.old) (E.state to.new)
-        (K.state sink.old) (K.state sink.new) result }
+    ensures { RunsCopy (map string_bytes words.now) (D.state from.old) (D.state from.new) (E.state to.old)
+        (E.state to.new) (K.state sink.old) (K.state sink.new) result }
 {
     run_two_metered(alloc, words, from, to, sink, &mut Silent)
 }
@@ -67,14 +55,8 @@ pub(crate) fn run_two_metered<D: Device, E: Device, K: Sink, M: Meter>(
     sink: &mut K,
     meter: &mut M,
 ) -> Result<(), CopyRefusal>
-    ensures from_called { Called (D.state from.old) (D.state from.new) }
-    ensures to_called { Called (E.state to.old) (E.state to.new) }
-    ensures usage { (result ≡ Err CopyRefusal.Usage) ↔ AsksNoCopy (map string_bytes words.now) }
-    ensures unused { result ≡ Err CopyRefusal.Usage → (D.state from.new ≡ D.state from.old)
-        × (E.state to.new ≡ E.state to.old) × (K.state sink.new ≡ K.state sink.old) }
-    ensures does { (slots lists : ℕ) → AsksToCopy (map string_bytes words.now) slots lists
-        → DoesCopy slots lists (D.state from.old) (D.state from.new) (E.state to.old) (E.state to.new)
-        (K.state sink.old) (K.state sink.new) result }
+    ensures { RunsCopy (map string_bytes words.now) (D.state from.old) (D.state from.new) (E.state to.old)
+        (E.state to.new) (K.state sink.old) (K.state sink.new) result }
 {
     let Some(numbers) = numbers_of(words) else {
         return Err(CopyRefusal::Usage);

@@ -1,33 +1,33 @@
-//! The calls that a program makes with its words: each carries out the command, or refuses. One is of a single device, one
-//! copies a volume onto another device, and each is said again over files.
+//! The calls that a program makes with the words of a command. Each carries out the command, or refuses and
+//! says why.
 //!
-//! On a blank device, with `hello world` in the source at the `ingest`:
+//! `run` takes a command on one device, and `run_two` copies a volume to a second device. `run_over_file`
+//! and `run_two_over_files` do the same over files. On a blank device, with `hello world` in the source for
+//! the `ingest`:
 //!
 //!     format 8 2      makes a volume of 8 slots and 2 lists                        formatted
-//!     ingest a        takes the body to the source's end, stores it and its index  acknowledged 0
+//!     ingest a        reads the body from the source, stores it and its index      acknowledged 0
 //!     find hello      searches the documents: slot 0, identifier `a`, 11 bytes     0 a 11
 //!                                                                                  1 found
 //!     exercise 3      makes a volume in memory, and searches and audits it         documents 3 ..
 //!
-//! What a command does on a volume is said in `volume_commands`. A `replay` leaves the device alone. It takes a script from
-//! the source, replays its events on a device in memory of its own, and puts out a line for each. Nor does an `exercise`
-//! touch it: it makes a volume of so many documents on a device in memory of its own, searches, reads and audits it, and
-//! puts out what came of it.
+//! `volume_commands` says what a command does on a volume. Two commands are here instead, since they leave
+//! the device alone. Each makes a device in memory of its own. A `replay` reads a script from the source,
+//! carries out its events, and prints a line for each. An `exercise` stores as many documents as its number
+//! says, searches, reads and audits them, and prints what came of it.
 //!
-//! Whatever keeps a command from being done is a refusal that names its cause. And where nobody else writes, whatever a
-//! crash leaves of any of these, at any moment, from a blank device on, is blank or sound: settling makes a settled volume
-//! of it, with the documents that were sure before the command or those that stood then, or of an `ingest` these and the
-//! new one.
+//! If a command is not done, it ends with a refusal that names the cause. Now suppose that nobody else
+//! writes, and that the device was blank at first. Then whatever a crash leaves of a command, at any
+//! moment, is blank or sound. Settling makes a settled volume of it. This holds the documents that were
+//! sure before the command, or those that stood then, and after an `ingest` perhaps the new one as well.
 //!
-//! A further command is one case in each relation of specs/Commands.antt and of specs/Steadiness.antt of
-//! `volume_commands`, a file of its own there, and one arm in `command.rt`; its words are read in `command_line`.
+//! To add a command, add one case to each relation of `specs/Commands.antt` here and of
+//! `specs/Steadiness.antt` in `volume_commands`, a file to `volume_commands`, and an arm to `command.rt`.
+//! `command_line` reads its words.
 //!
-//! `copying.rt` has the call that copies a volume onto another device, and `over_file.rt` what a command over a file does to
-//! the bytes of the file.
-//!
-//! Stands on `command_line`, which says what words ask for, on `volume_commands`, `volume_copy`, `hostile_replay` and
-//! `volume_exercise`, and on `host_files`. Begin with `command.rt`; `specs/Commands.antt` says which commands there are, and
-//! leads to what each does.
+//! Stands on `command_line`, which reads words; `volume_commands`, `volume_copy`, `hostile_replay` and
+//! `volume_exercise`, which do the work; and `host_files`. Begin with `command.rt`. `specs/Commands.antt`
+//! lists the commands, and leads to what each does.
 #![tactic(auto)]
 
 mod command;

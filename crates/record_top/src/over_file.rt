@@ -9,22 +9,18 @@
 //! whatever a crash leaves of the file from then on, they are there. So is each document that stood before, and the
 //! index still leads to each that it led to.
 //!
-//! Besides, each clause of `run` is said again over the device that shows the file, so that the program's own call has
-//! them, too: what each command does and puts out, when it refuses, and what a crash leaves.
+//! Besides, what `run` promises is said again over the device that shows the file, so that the program's own call has
+//! it, too: what each command does and puts out, when it refuses, and what a crash leaves.
 //!
 //! `specs/Files.antt` says what is kept.
-ghost use Rattle.std.specs.Prelude.{◌≡◌, ◌↔◌, ℕ, List, Option, map};
+ghost use Rattle.std.specs.Prelude.{ℕ, List, Option, map};
 ghost use Rattle.std.specs.String.{string_bytes};
 ghost use Rattle.command_line.specs.Asking.{AsksToIngest};
-ghost use Rattle.command_line.specs.Requests.{Asks, AsksNothing, Request};
 ghost use Rattle.record_top.specs.Files.{KeepsAllOfFile, KeepsIn, WhereTold, file_ports};
 ghost use Rattle.host_files.specs.Crashes.{CrashesAreSeen};
 ghost use Rattle.host_files.specs.Over.{file_below, state_over};
-ghost use Rattle.command_laws.specs.Begins.{BeginsSteady};
-ghost use Rattle.record_top.specs.Commands.{Does, IsAnswered, IsUnhindered};
+ghost use Rattle.record_top.specs.Runs.{Runs};
 ghost use Rattle.volume_commands.specs.Ports.{ports_of};
-ghost use Rattle.volume_commands.specs.Steadiness.{LeavesWhole};
-ghost use Rattle.worm_device.specs.Calls.{Called};
 
 use crate::Outcome;
 use crate::command::run_metered;
@@ -43,18 +39,7 @@ pub fn run_over_file<F: HostFile, S: Source, K: Sink, M: Meter>(
     meter: &mut M,
 ) -> Outcome
     // All that `run` says, over the device that shows the file.
-    ensures called { Called (state_over device.old) (state_over device.new) }
-    ensures usage { (result ≡ Err Refusal.Usage) ↔ AsksNothing (map string_bytes words.now) }
-    ensures unused { result ≡ Err Refusal.Usage → (state_over device.new ≡ state_over device.old)
-        × (S.state source.new ≡ S.state source.old) × (K.state sink.new ≡ K.state sink.old) }
-    ensures does { (request : Request) → Asks (map string_bytes words.now) request → Does request
-        (ports_of (state_over device.old) (S.state source.old) (K.state sink.old))
-        (ports_of (state_over device.new) (S.state source.new) (K.state sink.new)) result }
-    ensures complete { (request : Request) → Asks (map string_bytes words.now) request → IsUnhindered request
-        (ports_of (state_over device.old) (S.state source.old) (K.state sink.old))
-        (ports_of (state_over device.new) (S.state source.new) (K.state sink.new)) → IsAnswered request result }
-    ensures steady { (request : Request) → Asks (map string_bytes words.now) request
-        → BeginsSteady (state_over device.old) (state_over device.new) → LeavesWhole request
+    ensures runs { Runs (map string_bytes words.now)
         (ports_of (state_over device.old) (S.state source.old) (K.state sink.old))
         (ports_of (state_over device.new) (S.state source.new) (K.state sink.new)) result }
 

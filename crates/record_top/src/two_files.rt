@@ -1,10 +1,9 @@
 //! The call that the program makes: the same over two files.
-ghost use Rattle.std.specs.Prelude.{◌≡◌, ◌↔◌, ℕ, map};
+ghost use Rattle.std.specs.Prelude.{map};
 ghost use Rattle.std.specs.String.{string_bytes};
 ghost use Rattle.host_files.specs.Crashes.{CrashesAreSeen};
 ghost use Rattle.host_files.specs.Over.{file_below, state_over};
-ghost use Rattle.worm_device.specs.Calls.{Called};
-ghost use Rattle.record_top.specs.Copying.{AsksNoCopy, AsksToCopy, DoesCopy};
+ghost use Rattle.record_top.specs.Copying.{RunsCopy};
 
 use crate::copying::run_two_metered;
 use cell_types::CopyRefusal;
@@ -23,16 +22,10 @@ pub fn run_two_over_files<F: HostFile, G: HostFile, K: Sink, M: Meter>(
     meter: &mut M,
 ) -> Result<(), CopyRefusal>
     // All that `run_two` says, over the devices that show the files.
-    ensures from_called { Called (state_over from.old) (state_over from.new) }
-    ensures to_called { Called (state_over to.old) (state_over to.new) }
-    ensures usage { (result ≡ Err CopyRefusal.Usage) ↔ AsksNoCopy (map string_bytes words.now) }
-    ensures unused { result ≡ Err CopyRefusal.Usage → (state_over from.new ≡ state_over from.old)
-        × (state_over to.new ≡ state_over to.old) × (K.state sink.new ≡ K.state sink.old) }
-    ensures does { (slots lists : ℕ) → AsksToCopy (map string_bytes words.now) slots lists
-        → DoesCopy slots lists (state_over from.old) (state_over from.new) (state_over to.old) (state_over to.new)
-        (K.state sink.old) (K.state sink.new) result }
+    ensures runs { RunsCopy (map string_bytes words.now) (state_over from.old) (state_over from.new) (state_over to.old)
+        (state_over to.new) (K.state sink.old) (K.state sink.new) result }
 
-    // What a crash leaves of either file, at any moment, is a crash of its device, of which the clauses above speak.
+    // What a crash leaves of either file, at any moment, is a crash of its device, of which the clause above speaks.
     ensures from_crashes { CrashesAreSeen (state_over from.new) (file_below from.new).told }
     ensures to_crashes { CrashesAreSeen (state_over to.new) (file_below to.new).told }
 {
