@@ -10,6 +10,7 @@ use Rattle.cell_types.specs.declared.geometry.TheConstants.{MAX_SLOTS}
 use Rattle.cell_types.specs.declared.refusal.Refusal.{Refusal}
 use Rattle.cell_types.specs.declared.refusal.Refusal.TheVariants as refusals
 use Rattle.volume_meaning.specs.Documents.{IsIdentifier}
+use Rattle.volume_meaning.specs.declared.limits.TheConstants.{MAX_IDENTIFIER_BYTES}
 use Rattle.receipt_text.specs.Listed.{AreListed}
 use Rattle.receipt_text.specs.declared.receipt.Receipt.{Receipt}
 use Rattle.receipt_text.specs.declared.receipt.ReceiptFault.{ReceiptFault}
@@ -67,6 +68,12 @@ pub record IsFirstBadLine (cells : ℕ) (text : List ℕ) (i : ℕ) : Type 0 whe
   pub breaks : (line behind : List ℕ) → rest ≡ line ++ (codes "\n" ++ behind)
       → BeginsReceipt cells (before ++ (line ∷ [])) → ⊥
   pub none : (r : Receipt) → IsReceiptOn cells r → text ≢ text_of_receipt r
+
+-- the limits of the form, as numbers
+pub record LimitsAreNumbers : Type 0 where
+  pub cells : MAX_RECEIPT_CELLS ≡ 1000000
+  pub slots : MAX_SLOTS ≡ 16777216
+  pub identifier : MAX_IDENTIFIER_BYTES ≡ 200
 
 -- what a fault of a receipt's text is to a command
 abbrev pub refusal_of_receipt : ReceiptFault → Refusal

@@ -1,5 +1,5 @@
 //! What the form of a receipt entails.
-ghost use Rattle.receipt_text.specs.Form.{BadIsOne, TextsAreOne};
+ghost use Rattle.receipt_text.specs.Form.{BadIsOne, LimitsAreNumbers, TextsAreOne};
 ghost use Rattle.receipt_text.specs.Listed.{ListedAreCells};
 
 /// A text spells one receipt.
@@ -15,4 +15,9 @@ pub fn bad_is_one()
 /// What listed cells show are written cells of the device whose cells they are.
 pub fn listed_are_cells()
     ensures { ListedAreCells }
+{}
+
+/// The limits that clauses cite by a constant's name are these numbers.
+pub fn limits_are_numbers()
+    ensures { LimitsAreNumbers }
 {}

@@ -32,7 +32,7 @@ mod printing;
 mod reading;
 mod receipt;
 
-pub use laws::{bad_is_one, listed_are_cells, texts_are_one};
+pub use laws::{bad_is_one, limits_are_numbers, listed_are_cells, texts_are_one};
 pub use listed::{ListedCell, ListedCells};
 pub use printing::text_of_receipt;
 pub use reading::read_receipt;

@@ -15,8 +15,8 @@ use worm_memory::{Change, MemoryDevice};
 /// Room for how many changes a device gets before each command, if no line says another.
 const CHANGES: u32 = 200;
 
-/// How many bytes a command may put out: as many as the replies of a script of the greatest length take, and more.
-const SINK_BYTES: u32 = 16_384;
+/// How many bytes a command may put out: as many as the longest receipt of a row takes, and more.
+const SINK_BYTES: u32 = 4_194_304;
 
 /// The device of a row, what the next command is given, and what the last one answered.
 #[derive(Drop)]
