@@ -2,9 +2,10 @@
 
 import heapq
 import struct
+from array import array
 from typing import Dict, Iterator, List, Mapping, NamedTuple, Optional, Tuple, Union
 
-BLANK = bytes(16)
+BLANK, NO_TAG = bytes(16), bytes(6)
 MAX_SLOTS, MAX_LISTS, MAX_CELLS = 1 << 24, 4096, 1 << 31
 MAX_IDENTIFIER, MAX_BODY = 200, 1 << 20
 KINDS = (VOLUME, RESERVE, COMMIT, ABANDON, DONE, POSTING, JUMP, BUCKET, CHILD,
@@ -93,8 +94,8 @@ class StampCell(NamedTuple):
     seconds: int
 
 
-IndexRecord = Union[PostingCell, JumpCell, BucketCell, ChildCell]
-Record = Union[VolumeCell, ReserveCell, CommitCell, AbandonCell, DoneCell, StampCell, IndexRecord]
+Record = Union[VolumeCell, ReserveCell, CommitCell, AbandonCell, DoneCell, PostingCell, JumpCell,
+               BucketCell, ChildCell, StampCell]
 
 
 def volume_cell(raw: bytes, at: int) -> Optional[VolumeCell]:
@@ -134,26 +135,37 @@ def decode(raw: bytes, at: int) -> Optional[Record]:
     return {JUMP: JumpCell, CHILD: ChildCell, STAMP: StampCell}[kind](first)
 
 
-def index_record(raw: bytes, at: int) -> Optional[IndexRecord]:
-    """The posting, jump, bucket or child that these bytes are in cell `at`, or None."""
-    if not POSTING <= raw[0] <= CHILD:
-        return None
-    return decode(raw, at)  # type: ignore[return-value]
-
-
 def encode(kind: int, body: bytes, at: int) -> bytes:
     """A record cell: its kind, its body with zeros behind it, and its own number."""
     return bytes([kind]) + body.ljust(11, b"\0") + at.to_bytes(4, "big")
 
 
-def posting_body(key: int, last: int, tag: bytes) -> bytes:
-    """Bytes 1 to 11 of a posting cell."""
-    return struct.pack(">IB6s", key, last, tag)
+# Bytes 1 to 11 of a posting cell: key, last and tag.
+posting_body = struct.Struct(">IB6s").pack
+
+# Of each cell of a row: its bytes, bytes 1 to 11 of it, and its fields as those of a posting cell.
+cell_rows = struct.Struct("16s").iter_unpack
+body_rows = struct.Struct("x11s4x").iter_unpack
+posting_rows = struct.Struct(">BIB6sI").iter_unpack
 
 
-def number_in(raw: bytes) -> int:
-    """The last four bytes: a record's own cell, or the target of a journal's copy."""
-    return int.from_bytes(raw[12:], "big")
+# No cell has this number, nor a greater one.
+NOWHERE = 1 << 32
+
+
+def targets_in(raw: bytes) -> "array[int]":
+    """For each cell of a row its number in the last four bytes, where it is a posting, jump, bucket
+    or child of that number; else NOWHERE."""
+    targets = array("Q")
+    for kind, first, last, tag, number in posting_rows(raw):
+        if kind == POSTING:
+            is_index = first % 256 <= last
+        elif kind == BUCKET:
+            is_index = first < MAX_SLOTS
+        else:
+            is_index = kind in (JUMP, CHILD) and last == 0 and tag == NO_TAG
+        targets.append(number if is_index else NOWHERE)
+    return targets
 
 
 # Where the parts of a volume begin ("Layout").
@@ -179,7 +191,8 @@ def pool_at(cell: VolumeCell) -> int:
 class Image:
     """The cells of a device. `over` are cells that lie over those of `data`."""
 
-    PAGE = 4096
+    PAGE, ROW = 4096, 64
+    BLANK_ROW = bytes(16 * ROW)
 
     def __init__(self, data: bytes, cells: int, over: Optional[Mapping[int, bytes]] = None) -> None:
         self.data, self.cells = data, cells
@@ -236,10 +249,10 @@ class Image:
             raw = self.data[16 * page:16 * min(page + self.PAGE, end)]
             if not raw.strip(b"\0"):
                 continue
-            for row in range(0, len(raw), 1024):
-                part = raw[row:row + 1024]
-                if not any(part):
+            for row in range(0, len(raw), 16 * self.ROW):
+                part = raw[row:row + 16 * self.ROW]
+                if part == self.BLANK_ROW:
                     continue
-                for i in range(0, len(part), 16):
-                    if part[i:i + 16] != BLANK:
-                        yield page + (row + i) // 16, part[i:i + 16]
+                for at, (cell,) in enumerate(cell_rows(part), page + row // 16):
+                    if cell != BLANK:
+                        yield at, cell

@@ -5,7 +5,8 @@ from bisect import bisect_left
 from hashlib import sha256
 from typing import Callable, Dict, Iterator, List, NamedTuple, Optional, Set, Tuple
 
-from cells import BLOCK, NODE, POSTING, BucketCell, ChildCell, JumpCell, posting_body
+from cells import (BLOCK, NODE, POSTING, BucketCell, ChildCell, JumpCell, body_rows, posting_body,
+                   posting_rows)
 from volume import DONE, Slot, Volume
 from words import words_of
 
@@ -19,18 +20,18 @@ class Span(NamedTuple):
     end: int
 
 
-def span_of(greatest: int, level: int, digit: int) -> Span:
-    """The keys of pointer (level, digit) of a block with this greatest key."""
-    return Span(greatest + digit * 16 ** level, greatest + (digit + 1) * 16 ** level)
+def pointer_of(greatest: int, key: int) -> int:
+    """The place of the pointer of a key's span in a block with this greatest key."""
+    distance = key - greatest
+    level = (distance.bit_length() - 1) // 4
+    return ENTRIES + 15 * level + distance // 16 ** level - 1
 
 
-def pointer_of(greatest: int, key: int) -> Tuple[int, Span]:
-    """The place of the pointer of a key's span in a block with this greatest key, and the span."""
-    distance, level = key - greatest, 0
-    while 16 ** (level + 1) <= distance:
-        level += 1
-    digit = distance // 16 ** level
-    return ENTRIES + 15 * level + digit - 1, span_of(greatest, level, digit)
+def span_of(greatest: int, place: int) -> Span:
+    """The keys of the pointer at this place of a block with this greatest key."""
+    level, before = divmod(place - ENTRIES, 15)
+    first = greatest + (before + 1) * 16 ** level
+    return Span(first, first + 16 ** level)
 
 
 class Front:
@@ -38,19 +39,18 @@ class Front:
 
     def __init__(self, raw: bytes, start: int) -> None:
         self.keys: List[int] = []
-        self.bodies: List[bytes] = []
         greatest = -1
-        for at, (kind, key, last, tag, own) in enumerate(struct.iter_unpack(">BIB6sI", raw), start):
+        for at, (kind, key, last, _, own) in enumerate(posting_rows(raw), start):
             if kind != POSTING or own != at or key % 256 > last or key <= greatest:
                 break
             greatest = key
             self.keys.append(key)
-            self.bodies.append(posting_body(key, last, tag))
+        self.bodies: List[bytes] = [body for (body,) in body_rows(raw[:16 * len(self.keys)])]
 
-    def place_of(self, body: bytes) -> Optional[int]:
-        """The place of a posting, or None."""
-        i = bisect_left(self.keys, key_of(body))
-        return i if self.bodies[i:i + 1] == [body] else None
+    def place_of(self, key: int, body: bytes) -> Optional[int]:
+        """The place of a posting with this key, or None."""
+        i = bisect_left(self.keys, key)
+        return i if i < len(self.bodies) and self.bodies[i] == body else None
 
     def has_key_in(self, span: Span) -> bool:
         """Whether some key lies in the span."""
@@ -93,6 +93,7 @@ class Index:
         self._tags: Dict[bytes, Tuple[int, bytes]] = {}
         self._postings: Dict[int, Optional[Dict[int, List[bytes]]]] = {}
         self._fronts: Dict[int, Front] = {}
+        self._next_blocks: Dict[int, Optional[int]] = {}
         self._blocks: Dict[int, List[int]] = {}
         self._nodes: Optional[Dict[int, Set[int]]] = None
 
@@ -133,9 +134,10 @@ class Index:
 
     def front(self, start: int) -> Front:
         """The front of the block that begins at `start`."""
-        if start not in self._fronts:
-            self._fronts[start] = Front(self.image.span(start, ENTRIES), start)
-        return self._fronts[start]
+        front = self._fronts.get(start)
+        if front is None:
+            front = self._fronts[start] = Front(self.image.span(start, ENTRIES), start)
+        return front
 
     def jump(self, at: int) -> Optional[int]:
         """The target of the jump cell `at`, where its 256 cells lie in the pool, or None."""
@@ -165,17 +167,25 @@ class Index:
         key, start, hops = key_of(body), self.volume.list_at(number), []
         while True:
             front = self.front(start)
-            place = front.place_of(body)
-            if place is not None:
-                return hops + [Hop(start, place)]
             if len(front.keys) < ENTRIES or key <= front.keys[-1]:
-                return None
-            place, span = pointer_of(front.keys[-1], key)
-            target = self.jump(start + place)
-            if target is None or not self.front(target).has_key_in(span):
+                place = front.place_of(key, body)
+                return None if place is None else hops + [Hop(start, place)]
+            place = pointer_of(front.keys[-1], key)
+            target = self.next_block(start, place)
+            if target is None:
                 return None
             hops.append(Hop(start, place))
             start = target
+
+    def next_block(self, start: int, place: int) -> Optional[int]:
+        """The block to which a pointer of the full block at `start` leads by a key of its span, or
+        None. It is remembered."""
+        at = start + place
+        if at not in self._next_blocks:
+            target, span = self.jump(at), span_of(self.front(start).keys[-1], place)
+            leads = target is not None and self.front(target).has_key_in(span)
+            self._next_blocks[at] = target if leads else None
+        return self._next_blocks[at]
 
     def with_trails(self, number: int, wanted: Callable[[bytes], bool]
                     ) -> Iterator[Tuple[bytes, int]]:

@@ -3,7 +3,7 @@
 from bisect import bisect_left
 from typing import Callable, Dict, Iterator, List, Optional, Set, Tuple
 
-from cells import BLANK, BLOCK, NODE, ChildCell, JumpCell, PostingCell, index_record, number_in
+from cells import BLANK, BLOCK, CHILD, JUMP, NODE, NOWHERE, ChildCell, PostingCell
 from index import ENTRIES, POINTERS_END, Index, fingerprint, half_bytes, span_of
 from volume import COMMITTED, DONE, Slot
 
@@ -52,14 +52,13 @@ def rule_5(index: Index) -> Cells:
     """Journal cells: copies of index cells that the slot may add, in rising order."""
     v = index.volume
     for slot in v.with_parts():
-        # The target of the cell before: -1 before the first, and None where it copied nothing.
-        before: Optional[int] = -1
-        for at, raw in v.journal(slot):
-            target = number_in(raw) if index_record(raw, number_in(raw)) else None
+        # The target of the cell before: NOWHERE, which no target is greater than, where it copies
+        # nothing.
+        before = -1
+        for at, target, raw in v.journal(slot).cells():
             if raw == BLANK:
                 yield slot.at + 1
-            elif (target is None or before is None or target <= before
-                  or target >= slot.document_at or not is_index_cell(index, slot, target)):
+            elif not (before < target < slot.document_at and is_index_cell(index, slot, target)):
                 yield at
             before = target
 
@@ -76,10 +75,10 @@ def rule_6(index: Index) -> Cells:
     """Journal cells: the target holds the same, or is blank before the slot is done."""
     v = index.volume
     for slot in v.with_parts():
-        for at, raw, _ in v.copies(slot):
-            there = v.image.cell(number_in(raw))
-            if there != raw and not (slot.state == COMMITTED and there == BLANK):
-                yield at
+        for at, target, raw in v.journal(slot).cells():
+            if target != NOWHERE and v.image.cell(target) != raw:
+                if slot.state != COMMITTED or not v.image.is_blank(target):
+                    yield at
 
 
 def rule_7(index: Index) -> Cells:
@@ -93,7 +92,7 @@ def rule_7(index: Index) -> Cells:
                 yield slot.at + 3
         if slot.state == DONE and slot.stamp is not None:
             greatest = max(greatest, slot.stamp)
-    named = {number_in(raw) for slot in v.done() for _, raw, _ in v.copies(slot)}
+    named: Set[int] = set().union(*(v.journal(slot).targets for slot in v.done()))
     parts = [(v.lists_at, v.pool)] + [(slot.start, slot.document_at) for slot in v.done()]
     for start, end in parts:
         yield from (at for at, _ in written(start, end) if at not in named)
@@ -171,10 +170,9 @@ def leads_well(index: Index, places: Places, number: int, start: int, at: int) -
         return False
     if len(keys) < ENTRIES and any(index.image.is_blank(start + i) for i in range(ENTRIES)):
         return False
-    level, digit = divmod(at - start - ENTRIES, 15)
     return (all(target + BLOCK <= edge for edge in v.edges())
             and bool(v.owners(target, BLOCK))
-            and index.front(target).has_key_in(span_of(keys[-1], level, digit + 1))
+            and index.front(target).has_key_in(span_of(keys[-1], at - start))
             and all(met == (target, number) for met in places.blocks_met(target, BLOCK))
             and not places.nodes_met(target, BLOCK))
 
@@ -201,8 +199,8 @@ def rule_12(index: Index) -> Cells:
     v, places, nodes = index.volume, Places(index), index.nodes()
     adders: Dict[bytes, List[Slot]] = {}
     for slot in v.with_parts():
-        for _, raw, record in v.copies(slot):
-            if isinstance(record, ChildCell):
+        for kind, _, raw in v.journal(slot).pointers():
+            if kind == CHILD:
                 adders.setdefault(raw, []).append(slot)
     lowest: Dict[int, int] = {}
     for start in nodes:
@@ -250,11 +248,10 @@ def rule_15(index: Index) -> Cells:
     v = index.volume
     for slot in v.done():
         sizes: Dict[int, int] = {}
-        for _, _, record in v.copies(slot):
-            if (isinstance(record, (JumpCell, ChildCell))
-                    and slot.in_block_part(record.target, 1)):
-                size = BLOCK if isinstance(record, JumpCell) else NODE
-                sizes[record.target] = max(size, sizes.get(record.target, 0))
+        for kind, target, _ in v.journal(slot).pointers():
+            if slot.in_block_part(target, 1):
+                size = BLOCK if kind == JUMP else NODE
+                sizes[target] = max(size, sizes.get(target, 0))
         at = slot.start
         for start in sorted(sizes):
             if at != start:

@@ -2,7 +2,7 @@
 
 from typing import Dict, NamedTuple, Optional
 
-from cells import ABANDON, BLANK, DONE, Evidence, encode, index_record, number_in
+from cells import ABANDON, BLANK, DONE, Evidence, encode
 from volume import BROKEN, RESERVED, Slot, Volume
 
 
@@ -79,20 +79,19 @@ def check_state(slot: Slot) -> None:
 def check_journal(volume: Volume, slot: Slot) -> None:
     """Step 7: whether the journal may be carried out."""
     floor = volume.lists_at
-    for at, raw in volume.journal(slot):
-        target = number_in(raw)
+    for at, target, raw in volume.journal(slot).cells():
         if raw == BLANK:
             raise Evidence(5, slot.at + 1)
-        if index_record(raw, target) is None or not floor <= target < slot.document_at:
+        if not floor <= target < slot.document_at:
             raise Evidence(5, at)
         floor = target + 1
 
 
 def apply_journal(volume: Volume, slot: Slot, written: Dict[int, bytes]) -> None:
     """Step 8: the targets, up to one that holds another value."""
-    for at, raw in volume.journal(slot):
-        there = volume.image.cell(number_in(raw))
+    for at, target, raw in volume.journal(slot).cells():
+        there = volume.image.cell(target)
         if there not in (raw, BLANK):
             raise Evidence(6, at)
         if there == BLANK:
-            written[number_in(raw)] = raw
+            written[target] = raw

@@ -3,9 +3,9 @@
 from bisect import bisect_right
 from typing import Dict, Iterator, List, NamedTuple, Optional, Tuple
 
-from cells import (BLANK, BLOCK, MAX_BODY, MAX_IDENTIFIER, NODE, AbandonCell, CommitCell, DoneCell,
-                   Image, IndexRecord, Refusal, ReserveCell, StampCell, VolumeCell, decode,
-                   index_record, lists_at, number_in, pool_at, root_at)
+from cells import (BLANK, BLOCK, CHILD, JUMP, MAX_BODY, MAX_IDENTIFIER, NODE, NOWHERE, AbandonCell,
+                   CommitCell, DoneCell, Image, Refusal, ReserveCell, StampCell, VolumeCell,
+                   cell_rows, decode, lists_at, pool_at, root_at, targets_in)
 
 UNUSED, RESERVED, ABANDONED, COMMITTED, DONE, BROKEN = (
     "unused", "reserved", "abandoned", "committed", "done", "in no state")
@@ -43,6 +43,13 @@ class Slot:
             start, end = self.reserve.start, self.reserve.start + self.reserve.length
             if volume.pool <= start and end <= volume.image.cells:
                 self.start, self.end = start, end
+        # d, where its journal begins, which ends with its reservation, and where its document does,
+        # at which its block part ends: by the commit cell.
+        self.document_cells, self.journal_at, self.document_at = 0, self.end, self.end
+        if self.commit:
+            self.document_cells = (self.commit.bytes + 14) // 15
+            self.journal_at -= self.commit.journal
+            self.document_at = self.journal_at - self.document_cells
         self.state = self._state()
 
     def _record(self, place: int, kind: type):
@@ -54,21 +61,6 @@ class Slot:
     def reserves(self) -> bool:
         """Whether its reserve cell reserves cells of the pool."""
         return self.end > 0
-
-    @property
-    def document_cells(self) -> int:
-        """d: how many cells its document takes, by the commit cell."""
-        return (self.commit.bytes + 14) // 15
-
-    @property
-    def journal_at(self) -> int:
-        """Where its journal begins, which ends with its reservation."""
-        return self.end - self.commit.journal
-
-    @property
-    def document_at(self) -> int:
-        """Where its document begins; its block part ends there."""
-        return self.journal_at - self.document_cells
 
     @property
     def fits(self) -> bool:
@@ -108,6 +100,26 @@ class Slot:
         return self.start <= start and start + count <= self.document_at
 
 
+class Journal:
+    """The cells of a slot's journal from cell `at` on, and the target of each: NOWHERE of one that
+    copies nothing."""
+
+    def __init__(self, at: int, raw: bytes) -> None:
+        self.at, self.raw, self.targets = at, raw, targets_in(raw)
+
+    def cells(self) -> Iterator[Tuple[int, int, bytes]]:
+        """Each cell: where it stands, its target, and its bytes."""
+        for at, (target, (raw,)) in enumerate(zip(self.targets, cell_rows(self.raw)), self.at):
+            yield at, target, raw
+
+    def pointers(self) -> Iterator[Tuple[int, int, bytes]]:
+        """The copies of jump and child cells: the kind of each, where it leads, and its bytes."""
+        for i, kind in enumerate(self.raw[::16]):
+            if kind in (JUMP, CHILD) and self.targets[i] != NOWHERE:
+                raw = self.raw[16 * i:16 * i + 16]
+                yield kind, int.from_bytes(raw[1:5], "big"), raw
+
+
 class Volume:
     """A volume on a device: its layout, slots, documents and journals."""
 
@@ -124,6 +136,7 @@ class Volume:
         self._starts: List[int] = []
         self._horizons: Optional[List[int]] = None
         self._identifiers: Dict[int, Optional[bytes]] = {}
+        self._journals: Dict[int, Journal] = {}
 
     def list_at(self, number: int) -> int:
         """The first block of a list; the time list is the one behind those of words."""
@@ -168,8 +181,8 @@ class Volume:
         slots = self.with_parts()
         if self._starts:
             # Reservations that rise can't meet, so one slot alone comes into question.
-            i = bisect_right(self._starts, start)
-            slots = slots[max(i - 1, 0):i]
+            last = slots[bisect_right(self._starts, start) - 1]
+            return [last] if last.in_block_part(start, count) else []
         return [slot for slot in slots if slot.in_block_part(start, count)]
 
     def horizons(self) -> List[int]:
@@ -231,18 +244,12 @@ class Volume:
 
     # Journals.
 
-    def journal(self, slot: Slot) -> Iterator[Tuple[int, bytes]]:
-        """The cells of a slot's journal: where each stands, and its bytes."""
-        raw = self.image.span(slot.journal_at, slot.commit.journal)
-        for i in range(slot.commit.journal):
-            yield slot.journal_at + i, raw[16 * i:16 * i + 16]
-
-    def copies(self, slot: Slot) -> Iterator[Tuple[int, bytes, IndexRecord]]:
-        """The journal cells that copy a cell: where each stands, its bytes, and the record."""
-        for at, raw in self.journal(slot):
-            record = index_record(raw, number_in(raw))
-            if record is not None:
-                yield at, raw, record
+    def journal(self, slot: Slot) -> Journal:
+        """The journal of a committed or done slot. It is remembered."""
+        if slot.number not in self._journals:
+            raw = self.image.span(slot.journal_at, slot.commit.journal)
+            self._journals[slot.number] = Journal(slot.journal_at, raw)
+        return self._journals[slot.number]
 
 
 def stated_in(image: Image) -> VolumeCell:

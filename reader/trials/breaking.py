@@ -2,11 +2,11 @@
 
 import random
 import struct
-from typing import Callable, Dict
+from typing import Callable, Dict, List, NamedTuple
 
-from cells import ABANDON, BLOCK, DONE, NODE, encode
-from forging import Draft, Plan, bucket, child, commit, jump, posting, reserve, stamp
-from index import ENTRIES, Index, fingerprint, pointer_of
+from cells import ABANDON, BLOCK, DONE, JUMP, NODE, POSTING, encode
+from forging import Draft, NoRoom, Plan, bucket, child, commit, jump, posting, reserve, stamp
+from index import ENTRIES, POINTERS_END, Index, fingerprint, pointer_of
 
 
 def next_plan(rng: random.Random, draft: Draft, body: bytes = b"hello foreign words") -> Plan:
@@ -23,6 +23,25 @@ def break_1(rng: random.Random, draft: Draft) -> None:
     draft.put(at, rng.choice([reserve(start, 1, at), reserve(start, 1, at),
                               reserve(draft.cells - 1, 2, at), reserve(0, 5, at),
                               reserve(draft.edge, 0, at), b"\x02" * 16]))
+
+
+def after_a_gap(rng: random.Random, draft: Draft) -> None:
+    """A reservation begins behind the end of the one before, and another slot follows."""
+    draft.edge += rng.choice([1, 5])
+    done_with(draft, next_plan(rng, draft))
+    draft.look_again()
+    done_with(draft, next_plan(rng, draft))
+
+
+def abandoned_slot(draft: Draft, cells: int) -> None:
+    """Gives the next slot up, with so many cells."""
+    draft.look_again()
+    at = 4 + 4 * draft.slot
+    if draft.slot >= draft.slots or draft.edge + cells > draft.cells:
+        raise NoRoom
+    draft.put(at, reserve(draft.edge, cells, at))
+    draft.put(at + 1, encode(ABANDON, b"", at + 1))
+    draft.look_again()
 
 
 def break_2(rng: random.Random, draft: Draft) -> None:
@@ -154,6 +173,110 @@ def break_9(rng: random.Random, draft: Draft) -> None:
     done_with(draft, plan)
 
 
+def in_another_list(rng: random.Random, draft: Draft) -> None:
+    """A posting of the document stands in the list of another word, too."""
+    plan, index = next_plan(rng, draft, b"hello"), Index(draft.volume())
+    own, tag = index.tag_of(b"hello")
+    other = rng.choice([number for number in range(draft.lists) if number != own] or [own])
+    start = index.volume.list_at(other)
+    place = len(index.front(start).keys)
+    cell = next(cell for cell in plan.index.values() if cell[0] == POSTING and cell[6:12] == tag)
+    at = start + place
+    if place == ENTRIES or at in plan.index:
+        raise NoRoom
+    plan.index[at] = cell[:12] + at.to_bytes(4, "big")
+    done_with(draft, plan)
+
+
+class SecondBlock(NamedTuple):
+    """The plan of a document whose postings of list 0 go to a block of its own, and the pointers
+    that lead there, at least two, from a full block."""
+
+    plan: Plan
+    pointers: List[int]
+
+    @property
+    def start(self) -> int:
+        """The block of its own."""
+        return self.plan.start
+
+    def postings(self) -> List[int]:
+        """The cells of its postings in this block."""
+        return [at for at in sorted(self.plan.index) if self.start <= at < self.start + ENTRIES]
+
+
+def words_of_list_0(draft: Draft, name: bytes, count: int) -> bytes:
+    """So many words of list 0 that begin with this name."""
+    index, words, number = Index(draft.volume()), [], 0
+    while len(words) < count:
+        word = b"%s%d" % (name, number)
+        number += 1
+        if index.tag_of(word)[0] == 0:
+            words.append(word)
+    return b" ".join(words)
+
+
+def second_block(rng: random.Random, draft: Draft) -> SecondBlock:
+    """Fills the first block of list 0 by a document, and plans another."""
+    room = ENTRIES - len(Index(draft.volume()).front(draft.lists_at).keys)
+    if room:
+        done_with(draft, next_plan(rng, draft, words_of_list_0(draft, b"fill", room)))
+        draft.look_again()
+    for _ in range(20):
+        plan = next_plan(rng, draft, words_of_list_0(draft, b"more", 40))
+        pointers = [at for at in sorted(plan.index) if plan.index[at][0] == JUMP
+                    and ENTRIES <= at - draft.lists_at < POINTERS_END]
+        leads = {int.from_bytes(plan.index[at][1:5], "big") for at in pointers}
+        # Without a node, so that the block part is this block.
+        if len(pointers) > 1 and leads == {plan.start} and plan.blocks == BLOCK:
+            return SecondBlock(plan, pointers)
+    raise NoRoom
+
+
+def overlapping_blocks(rng: random.Random, draft: Draft, step: int = 1) -> None:
+    """Two blocks of a slot, of which one begins at the pointer places of the other. The least
+    pointer leads to the first of them."""
+    plan, pointers = second = second_block(rng, draft)
+    starts = [second.start, second.start + ENTRIES][::step]
+    postings = [plan.index.pop(at) for at in second.postings()]
+    full = draft.cell(draft.lists_at + ENTRIES - 1)
+    firsts = [cell for cell in postings if draft.lists_at + pointer_of(
+        int.from_bytes(full[1:5], "big"), int.from_bytes(cell[1:5], "big")) == pointers[0]]
+    for start, cells in zip(starts, (firsts, [cell for cell in postings if cell not in firsts])):
+        for at, cell in enumerate(cells, start):
+            plan.index[at] = cell[:12] + at.to_bytes(4, "big")
+    for at in pointers:
+        plan.index[at] = jump(starts[at != pointers[0]], at)
+    plan.blocks += ENTRIES
+    done_with(draft, plan)
+
+
+def overlapping_blocks_turned(rng: random.Random, draft: Draft) -> None:
+    """The same, and the least pointer leads to the second of them."""
+    overlapping_blocks(rng, draft, -1)
+
+
+def node_in_a_block(rng: random.Random, draft: Draft) -> None:
+    """A child cell leads into a block."""
+    second = second_block(rng, draft)
+    at = rng.choice(free_child_cells(draft, second.plan))
+    to = second.start + rng.choice([ENTRIES, ENTRIES + 5, BLOCK - NODE, BLOCK - 1])
+    second.plan.blocks += NODE if to == second.start + BLOCK - 1 else 0
+    second.plan.index[at] = child(to, at)
+    done_with(draft, second.plan)
+
+
+def block_past_its_part(rng: random.Random, draft: Draft) -> None:
+    """A block whose pointer places are those of the document and the journal."""
+    second = second_block(rng, draft)
+    if len(second.plan.document_places()) + len(second.plan.index) > POINTERS_END - ENTRIES:
+        raise NoRoom
+    second.plan.blocks -= ENTRIES
+    done_with(draft, second.plan)
+    # With an abandoned slot behind it, the block lies before the edge.
+    abandoned_slot(draft, BLOCK)
+
+
 def break_10(rng: random.Random, draft: Draft) -> None:
     """A pointer of a block that is not full, one that leads nowhere or to a block without a key of
     its span, or a cell that is none."""
@@ -170,7 +293,7 @@ def break_10(rng: random.Random, draft: Draft) -> None:
         # The last posting goes to a block of its own, before this one is full.
         last = plan.index.pop(mine[-1])
         before = int.from_bytes(plan.index[mine[-2]][1:5], "big")
-        at = start + pointer_of(before, int.from_bytes(last[1:5], "big"))[0]
+        at = start + pointer_of(before, int.from_bytes(last[1:5], "big"))
         if to == own:
             plan.index[own] = last[:12] + own.to_bytes(4, "big")
     plan.index[at] = rng.choice([jump(to, at)] * 5 + [posting(0, 0, b"abcdef", at)])
@@ -196,9 +319,9 @@ def break_11(rng: random.Random, draft: Draft) -> None:
     done_with(draft, plan)
 
 
-def overlap(rng: random.Random, draft: Draft) -> bool:
-    """Two nodes of one slot that overlap, so that a bucket on its path in one is off it in the
-    other. It answers whether there was a place for them."""
+def overlap(rng: random.Random, draft: Draft, by: int = 1) -> bool:
+    """Two nodes of one slot that overlap; by one cell, so that a bucket on its path in one is off it
+    in the other. It answers whether there was a place for them."""
     for _ in range(20):
         plan = next_plan(rng, draft)
         others = [draft.root + 16 + x for x in range(16) if not draft.is_free(draft.root + x)
@@ -206,9 +329,9 @@ def overlap(rng: random.Random, draft: Draft) -> bool:
         mine = [at for at in plan.index if draft.root + 16 <= at < draft.root + NODE]
         if mine and others:
             node = int.from_bytes(plan.index[mine[0]][1:5], "big")
-            plan.blocks += 1
+            plan.blocks += by
             other = rng.choice(others)
-            plan.index[other] = child(node + 1, other)
+            plan.index[other] = child(node + by, other)
             done_with(draft, plan)
             return True
     return False
@@ -231,6 +354,42 @@ def break_12(rng: random.Random, draft: Draft) -> None:
     done_with(draft, plan)
 
 
+def free_child_cells(draft: Draft, plan: Plan) -> List[int]:
+    """The free child cells of the root under written buckets."""
+    found = [draft.root + 16 + x for x in range(16) if not draft.is_free(draft.root + x)
+             and draft.is_free(draft.root + 16 + x) and draft.root + 16 + x not in plan.index]
+    if not found:
+        raise NoRoom
+    return found
+
+
+def overlapping_nodes(rng: random.Random, draft: Draft) -> None:
+    """Two nodes, of which one begins at the child cells of the other."""
+    if not overlap(rng, draft, 16):
+        raise NoRoom
+
+
+def node_past_the_edge(rng: random.Random, draft: Draft) -> None:
+    """A child cell leads to a node whose own child cells are those of the document and the journal,
+    and of nobody."""
+    plan = next_plan(rng, draft, b"")
+    own = plan.start + plan.blocks
+    plan.blocks += NODE // 2
+    at = rng.choice(free_child_cells(draft, plan))
+    plan.index[at] = child(own, at)
+    done_with(draft, plan)
+
+
+def node_of_nobody(rng: random.Random, draft: Draft) -> None:
+    """A child cell leads to the cells of a slot that was given up."""
+    start = draft.edge
+    abandoned_slot(draft, NODE)
+    plan = next_plan(rng, draft)
+    at = rng.choice(free_child_cells(draft, plan))
+    plan.index[at] = child(start, at)
+    done_with(draft, plan)
+
+
 def break_13(rng: random.Random, draft: Draft) -> None:
     """A document without one of its postings, or with too many words of a list."""
     body = b"hello foreign words"
@@ -238,6 +397,13 @@ def break_13(rng: random.Random, draft: Draft) -> None:
     postings = sorted(at for at, cell in plan.index.items() if cell[0] == 6)
     del plan.index[rng.choice(postings)]
     done_with(draft, plan)
+
+
+def without_a_pointer(rng: random.Random, draft: Draft) -> None:
+    """A pointer is missing to a block to which others lead."""
+    second = second_block(rng, draft)
+    del second.plan.index[rng.choice(second.pointers)]
+    done_with(draft, second.plan)
 
 
 def break_14(rng: random.Random, draft: Draft) -> None:
@@ -261,6 +427,23 @@ def break_15(rng: random.Random, draft: Draft) -> None:
     done_with(draft, plan)
 
 
-BREAKS: Dict[int, Callable[[random.Random, Draft], None]] = {
-    1: break_1, 2: break_2, 3: break_3, 4: break_4, 5: break_5, 6: break_6, 7: break_7, 8: break_8,
-    9: break_9, 10: break_10, 11: break_11, 12: break_12, 13: break_13, 14: break_14, 15: break_15}
+def two_tiles(rng: random.Random, draft: Draft) -> None:
+    """A jump and a child cell that stand in no block and no node lead to the same cell."""
+    plan = next_plan(rng, draft)
+    own = plan.start + plan.blocks
+    plan.blocks += NODE
+    first, second = sorted(rng.sample(range(own, own + NODE), 2))
+    jump_at, child_at = rng.sample([first, second], 2)
+    plan.index[jump_at], plan.index[child_at] = jump(own, jump_at), child(own, child_at)
+    done_with(draft, plan)
+
+
+Break = Callable[[random.Random, Draft], None]
+BREAKS: Dict[int, List[Break]] = {
+    1: [break_1, after_a_gap], 2: [break_2], 3: [break_3], 4: [break_4], 5: [break_5],
+    6: [break_6], 7: [break_7], 8: [break_8], 9: [break_9, in_another_list],
+    10: [break_10, overlapping_blocks, overlapping_blocks_turned, node_in_a_block,
+         block_past_its_part],
+    11: [break_11], 12: [break_12, overlapping_nodes, node_past_the_edge, node_of_nobody],
+    13: [break_13, without_a_pointer], 14: [break_14], 15: [break_15, two_tiles]}
+WAYS: List[Break] = [way for ways in BREAKS.values() for way in ways]

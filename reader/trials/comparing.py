@@ -5,10 +5,13 @@ does" and "What an audit names".
 """
 
 import collections
+import functools
+import multiprocessing
 import os
 import random
 import re
 import shutil
+import signal
 import subprocess
 import tempfile
 import time
@@ -16,7 +19,7 @@ from typing import Counter, Dict, List, NamedTuple, Optional, Set, Tuple
 
 import worm_reader
 from answers import Answer, program_answer, reader_answer
-from breaking import BREAKS
+from breaking import WAYS
 from cells import BLANK, Image, Refusal
 from forging import Draft, NoRoom, forged_slot, reserve, stray_cell
 from index import Index
@@ -138,7 +141,7 @@ class Maker:
     def format(self) -> None:
         """Makes an empty volume by the program."""
         pool = 4 + 4 * self.slots + 256 * self.lists + 32 + 256 * (self.version == 3)
-        each = 500 if self.is_long else self.rng.choice([20, 60, 300])
+        each = 500 if self.is_long else self.rng.choice([20, 100, 600])
         cells = pool + self.slots * each + self.rng.randrange(700)
         write(self.asker.theirs, bytes(16 * cells))
         numbers = (b"%d" % number for number in (self.slots, self.lists, self.version))
@@ -228,12 +231,14 @@ def forged(maker: Maker) -> bytes:
 
 
 def broken(maker: Maker) -> bytes:
-    """One rule broken."""
+    """One rule broken, in a way for which there is room."""
     draft = maker.draft()
-    try:
-        BREAKS[maker.rng.randrange(1, 16)](maker.rng, draft)
-    except NoRoom:
-        pass
+    for way in maker.rng.sample(WAYS, 5):
+        try:
+            way(maker.rng, draft)
+            break
+        except NoRoom:
+            draft = maker.draft()
     return bytes(draft.raw)
 
 
@@ -269,9 +274,8 @@ def changed(maker: Maker) -> bytes:
 
 
 KINDS = [("honest", honest), ("cut", cut), ("killed", killed), ("foreign", foreign),
-         ("forged", forged), ("forged", forged), ("forged", forged), ("broken", broken),
-         ("broken", broken), ("broken", broken), ("broken", broken), ("horizons", many_horizons),
-         ("changed", changed)]
+         ("horizons", many_horizons), ("changed", changed)]
+KINDS += 3 * [("forged", forged)] + 8 * [("broken", broken)]
 
 
 # The comparison.
@@ -281,7 +285,7 @@ class Comparison:
     """Compares what both answer, and counts."""
 
     def __init__(self, asker: Asker) -> None:
-        self.asker, self.agree, self.differences = asker, 0, 0
+        self.asker, self.agree = asker, 0
         self.counts: Counter[str] = collections.Counter()
         self.shown: List[str] = []
 
@@ -290,7 +294,6 @@ class Comparison:
         if ours == theirs:
             self.agree += 1
             return True
-        self.differences += 1
         self.shown.append(f"{what}\n  program  {theirs!r}\n  reader   {ours!r}"[:1200])
         return False
 
@@ -307,17 +310,19 @@ class Comparison:
         self.counts[f"rule {named[1]}" if named else theirs.output.decode()[:5] or "other"] += 1
         settled = self.settling(sample, volume)
         queries = Queries(self, settled)
-        for identifier in pick(rng, sample.identifiers, 2) + [b"absent"]:
+        queries.ask(b"lookup", b"absent")
+        for identifier in pick(rng, sample.identifiers, 2):
             queries.ask(b"lookup", identifier)
             text = queries.ask(b"receipt", identifier)
             if text.status == 0:
                 self.receipts(rng, text.output, sample.image)
-        for count in (1, 1, 2):
+        for count in (1, 2):
             words = pick(rng, sample.words, count) or [b"hello"]
             queries.ask(b"find", *words)
         ends = sorted(pick(rng, sample.stamps, 2) + [rng.randrange(5000), 2 ** 32 - 1])
         queries.ask(b"between", b"%d" % ends[0], b"%d" % ends[-1])
-        queries.ask(b"between", b"%d" % ends[0], b"%d" % ends[1])
+        if sample.stamps:
+            queries.ask(b"between", b"%d" % ends[0], b"%d" % ends[1])
         self.asker.ask_reader(b"list")
         self.same("info and list answer", self.asker.ask_reader(b"info").status, 0)
         self.same("the reader writes nothing", read(self.asker.ours), sample.image)
@@ -350,7 +355,7 @@ class Comparison:
         # The receipt is of the volume that the program has settled; a check settles nothing.
         path = self.asker.ours + ".settled"
         write(path, read(self.asker.theirs))
-        for given in (text, changed_receipt(rng, text, image), changed_receipt(rng, text, image)):
+        for given in (text, changed_receipt(rng, text, image)):
             ours = self.asker.ask_reader(b"check", given=given, path=path)
             self.same(f"check {given!r}", ours, self.asker.ask_program(b"check", given=given))
 
@@ -452,29 +457,53 @@ def changed_receipt(rng: random.Random, text: bytes, image: bytes) -> bytes:
     return ("\n".join(lines) + "\n").encode()
 
 
+class Outcome(NamedTuple):
+    """What came of one volume: how many answers agree, what is counted, and what is to be shown of
+    those that differ."""
+
+    agree: int
+    counts: Counter[str]
+    shown: List[str]
+    head: str
+
+
+def compare_one(seed: int, program: str, folder: str, number: int) -> Outcome:
+    """Compares the volume of a number, and keeps its image in this folder where answers differ."""
+    work = os.path.join(folder, "work", str(os.getpid()))
+    os.makedirs(work, exist_ok=True)
+    rng, asker = random.Random(f"{seed}/{number}"), Asker(program, work)
+    sample, comparison = Maker(rng, asker).sample(), Comparison(asker)
+    comparison.volume(sample, rng)
+    path = os.path.join(folder, f"{seed}-{number}.img")
+    if comparison.shown:
+        write(path, sample.image)
+    head = f"volume {number}, {sample.name}, kept as {path}"
+    return Outcome(comparison.agree, comparison.counts, comparison.shown, head)
+
+
 def compare(seed: int, count: int, program: str) -> int:
-    """Compares so many volumes, and prints how that ended. The status is 0 where none differs."""
+    """Compares so many volumes, one on each processor at a time, and prints how that ended. The
+    status is 0 where none differs."""
     folder = tempfile.mkdtemp(prefix="compare_readers.")
-    asker = Asker(program, folder)
-    comparison = Comparison(asker)
-    kept = 0
-    for number in range(count):
-        rng = random.Random(f"{seed}/{number}")
-        sample = Maker(rng, asker).sample()
-        before = comparison.differences
-        comparison.volume(sample, rng)
-        if comparison.differences > before:
-            path = os.path.join(folder, f"{seed}-{number}.img")
-            write(path, sample.image)
-            kept += 1
-            print(f"volume {number}, {sample.name}, kept as {path}")
-            for difference in comparison.shown:
-                print(difference)
-            comparison.shown.clear()
-    for name in sorted(comparison.counts):
-        print(f"{name}: {comparison.counts[name]}")
-    if not kept:
-        shutil.rmtree(folder)
-    print(f"{comparison.agree} agree, {comparison.differences} differ")
-    return 1 if comparison.differences else 0
+    agree, differ, processors = 0, 0, len(os.sched_getaffinity(0))
+    counts: Counter[str] = collections.Counter()
+    with multiprocessing.get_context("fork").Pool(processors, leave_interrupts) as pool:
+        for outcome in pool.imap(functools.partial(compare_one, seed, program, folder),
+                                 range(count)):
+            agree, differ = agree + outcome.agree, differ + len(outcome.shown)
+            counts += outcome.counts
+            if outcome.shown:
+                print(outcome.head, *outcome.shown, sep="\n", flush=True)
+    for name in sorted(counts):
+        print(f"{name}: {counts[name]}")
+    shutil.rmtree(os.path.join(folder, "work"), ignore_errors=True)
+    if not differ:
+        os.rmdir(folder)
+    print(f"{agree} agree, {differ} differ")
+    return 1 if differ else 0
+
+
+def leave_interrupts() -> None:
+    """An interrupt is for the process that began the others."""
+    signal.signal(signal.SIGINT, signal.SIG_IGN)
 

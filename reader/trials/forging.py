@@ -106,6 +106,11 @@ class Draft:
         volume = self.volume()
         self.version, self.slots, self.lists = volume.version, volume.slots, volume.lists
         self.lists_at, self.root, self.pool = volume.lists_at, volume.root, volume.pool
+        self.look_again()
+
+    def look_again(self) -> None:
+        """Sees which slot is next, where the pool is free, and which stamp is the greatest."""
+        volume = self.volume()
         self.slot = horizon_of(volume)
         self.edge = volume.slot(self.slot - 1).end if self.slot else self.pool
         self.seconds = max((slot.stamp for slot in volume.done() if slot.stamp is not None),
@@ -166,7 +171,7 @@ class Draft:
             greatest = int.from_bytes(self._look(plan, start + ENTRIES - 1)[1:5], "big")
             if key <= greatest:
                 raise NoRoom
-            at = start + pointer_of(greatest, key)[0]
+            at = start + pointer_of(greatest, key)
             if self._look(plan, at) == BLANK:
                 plan.index[at] = jump(self._last_block(plan, index, number), at)
             start = int.from_bytes(self._look(plan, at)[1:5], "big")
@@ -350,7 +355,7 @@ def own_part(rng: random.Random, draft: Draft, plan: Plan) -> None:
             keys = index.front(start).keys
             place = ENTRIES + rng.randrange(120)
             if keys and 256 * plan.slot > keys[-1]:
-                place = pointer_of(keys[-1], 256 * plan.slot)[0]
+                place = pointer_of(keys[-1], 256 * plan.slot)
             plan.index.setdefault(start + place, jump(to, start + place))
             if rng.random() < 0.5:
                 plan.index.setdefault(own, posting(256 * plan.slot, 0, b"others", own))
