@@ -31,4 +31,4 @@ pub use cells::{CONTENT_BYTES, cells_for, content_cells, push_content};
 pub use piece::{ContentFault, read_piece};
 pub use position::{Position, next_byte, next_row, read_byte};
 pub use reader::Reader;
-pub use row::ROW_BYTES;
+pub use row::{ROW_BYTES, ROW_CONTENT};

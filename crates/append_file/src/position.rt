@@ -1,6 +1,7 @@
 //! How far a document part was read.
-ghost use Rattle.std.specs.Prelude.{◌≡◌, ◌<◌, ◌≤◌, ◌+◌, [], slice_index, take};
+ghost use Rattle.std.specs.Prelude.{◌≡◌, ◌<◌, ◌≤◌, ◌+◌, ◌-◌, ◌*◌, min, [], IfOk, slice_index, take};
 ghost use Rattle.append_file.specs.Reading.{ByteEnds, NextRowEnds, HasRead, IsPosition, NextByteEnds, at_start, ended, ended_behind, first_given, left_over, one_given, rest_given, row_given};
+ghost use Rattle.append_file.specs.declared.row.TheConstants.{ROW_CONTENT};
 ghost use Rattle.volume_meaning.specs.Slots as slots;
 ghost use Rattle.worm_device.specs.Views.{ViewState, Viewed};
 
@@ -159,7 +160,8 @@ pub fn read_byte<V: View>(view: &mut V, position: &mut Position) -> Result<u8, C
 }
 
 /// The next bytes of a part that has one more, and how many they are: what is left of a cell that was begun, or else
-/// what the next 256 cells hold, or as many as there are. It reads these in one call, each of them once.
+/// what the next 256 cells hold, or as many as there are. It reads these in one call, each of them once. Where nothing is
+/// left of a cell, these are the next 3,840 bytes, or all that the part still has.
 pub fn next_row<V: View>(
     view: &mut V,
     position: &mut Position,
@@ -174,6 +176,8 @@ pub fn next_row<V: View>(
     ensures reads { (V.seen view.new).base.reads + position.old.read
         ≤ (V.seen view.old).base.reads + position.new.read }
     ensures ends { NextRowEnds (V.seen view.old) (V.seen view.new) position.old position.new into.new result }
+    ensures whole { IfOk result (λ n. position.old.held.length ≤ position.old.given
+        → n ≡ min ROW_CONTENT (position.old.bytes - 15 * position.old.read)) }
 {
     if position.given < position.held.length {
         return Ok(position.give_rest(into));

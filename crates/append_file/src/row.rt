@@ -15,6 +15,9 @@ use worm_device::View;
 /// How many cells are read at once, at most.
 pub(crate) const ROW_CELLS: u32 = 256;
 
+/// How many bytes of a document they hold, at most.
+pub const ROW_CONTENT: usize = 3_840;
+
 /// How many bytes they have, which is room for the bytes of a document that they hold.
 pub const ROW_BYTES: usize = 4_096;
 

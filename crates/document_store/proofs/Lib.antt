@@ -1,5 +1,6 @@
 pub mod Bodies
 pub mod Checking
+pub mod Fronts
 pub mod Holding
 pub mod Naming
 pub mod Parsing

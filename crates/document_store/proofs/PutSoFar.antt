@@ -21,7 +21,7 @@ use Rattle.document_store.specs.declared.head.Head.{Head}
 use Rattle.document_store.specs.declared.putting.PutFault.TheVariants.{SinkFault}
 use Rattle.document_store.proofs.Holding.{whole_document}
 use Rattle.document_store.proofs.Parsing.{first_is, none_broken, stored_fits}
-use Rattle.document_store.proofs.SoFar.{BodySoFar, body_add, body_none, body_whole}
+use Rattle.document_store.proofs.SoFar.{BodySoFar, body_add, body_none, body_whole, head_fits}
 
 -- the first k bytes of a piece were read
 pub record FillSoFar (old now : ViewState) (p q : Position) (size k : ℕ) (piece : List ℕ) : Type 0 where
@@ -205,7 +205,7 @@ put_whole old now start bytes p q h from to k head so_far all =
       so_far.read.faults,
       so_far.faults,
       record {
-        has = body_whole old now start bytes p q h head whole.read;
+        has = body_whole old now start bytes p q h (head_fits head) whole.read;
         gets = whole.gets;
       },
     )

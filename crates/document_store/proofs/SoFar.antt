@@ -13,7 +13,7 @@ use Rattle.append_file.specs.declared.piece.ContentFault.{ContentFault}
 use Rattle.append_file.specs.declared.piece.ContentFault.TheVariants.{Broken, ReadFault}
 use Rattle.append_file.specs.declared.position.Position.{Position}
 use Rattle.append_file.proofs.Spelled.{whole}
-use Rattle.document_store.specs.Heads.{id_of, HeadFaultEnds, IsHead, HasBody}
+use Rattle.document_store.specs.Heads.{id_of, HeadFaultEnds, IsHead, IsHeadOf, HasBody}
 use Rattle.document_store.specs.declared.head.Head.{Head}
 use Rattle.document_store.proofs.Parsing.{none_broken, body_fits}
 
@@ -68,9 +68,20 @@ pub record BodySoFar (old now : ViewState) (start bytes : ℕ) (p q : Position) 
   pub is_length : length body ≡ k
   pub read : HasRead now start bytes q (stored_bytes (id_of h) body)
 
+-- a head that was read is one of a document
+pub head_fits : {v : ViewState} {start bytes : ℕ} {p : Position} {h : Head} → IsHead v start bytes p h
+    → IsHeadOf bytes h
+head_fits head = record {
+  identifier = head.identifier;
+  id_length = head.id_length;
+  count = head.count;
+  most = head.most;
+  room = head.room;
+}
+
 -- all of them were
 abbrev pub body_whole : (old now : ViewState) (start bytes : ℕ) (p q : Position) (h : Head)
-    → IsHead old start bytes p h → BodySoFar old now start bytes p q h h.body_length → HasBody now start bytes h
+    → IsHeadOf bytes h → BodySoFar old now start bytes p q h h.body_length → HasBody now start bytes h
 body_whole old now start bytes p q h head so_far =
     let id = id_of h in
     let count : bytes ≡ length (stored_bytes id so_far.body) =
@@ -136,7 +147,7 @@ body_none old start bytes p h head viewed = record {
 
 -- a byte of the body is left
 pub body_left : (old now : ViewState) (start bytes : ℕ) (p q : Position) (h : Head) (k : ℕ)
-    → IsHead old start bytes p h → (so_far : BodySoFar old now start bytes p q h k) → k < h.body_length
+    → IsHeadOf bytes h → (so_far : BodySoFar old now start bytes p q h k) → k < h.body_length
     → length (stored_bytes (id_of h) so_far.body) < bytes
 body_left old now start bytes p q h k head so_far less =
     omega (arith, head.count, so_far.is_length, less, length-append (id_of h) so_far.body)

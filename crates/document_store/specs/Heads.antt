@@ -1,5 +1,5 @@
 -- The stored bytes of a document, as they are read: a length, the identifier, the body.
-use Rattle.std.specs.Prelude.{◌≡◌, ◌≤◌, ◌+◌, ℕ, List, ◌∷◌, length, take, Result, Ok, Err, IsTrue}
+use Rattle.std.specs.Prelude.{◌≡◌, ◌<◌, ◌≤◌, ◌+◌, ℕ, List, ◌∷◌, drop, length, take, Result, Ok, Err, IsTrue}
 use Rattle.cell_types.specs.Image.{Image}
 use Rattle.volume_meaning.specs.Documents.{IsBody, IsIdentifier, Spells, stored_bytes}
 use Rattle.volume_meaning.specs.declared.limits.TheConstants.{MAX_BODY_BYTES, MAX_IDENTIFIER_BYTES}
@@ -19,6 +19,27 @@ id_of h = take h.id_length h.id
 -- so many stored bytes from this cell on spell no document
 abbrev pub SpellsNone : Image → ℕ → ℕ → Type 0
 SpellsNone image start bytes = HasDocument image start bytes → ⊥
+
+-- the head of a document of so many stored bytes
+pub record IsHeadOf (bytes : ℕ) (h : Head) : Type 0 where
+  pub identifier : IsIdentifier (id_of h)
+  pub id_length : h.id_length ≡ length (id_of h)
+  pub count : length (id_of h) + h.body_length + 1 ≡ bytes
+  pub most : h.body_length ≤ MAX_BODY_BYTES
+  pub room : h.id_length ≤ MAX_IDENTIFIER_BYTES
+
+-- The head of a document of so many stored bytes whose first ones are this row: the head, and behind it a front of the
+-- body.
+pub record IsHeadOfRow (bytes : ℕ) (row : List ℕ) (h : Head) : Type 0 where
+  pub head : IsHeadOf bytes h
+  pub within : h.id_length < length row
+  pub row_is : row ≡ stored_bytes (id_of h) (drop (1 + h.id_length) row)
+
+-- no document of so many stored bytes has this row as its first ones
+abbrev pub IsNoFront : ℕ → List ℕ → Type 0
+IsNoFront bytes row =
+    (id body : List ℕ) → IsIdentifier id → IsBody body → length (stored_bytes id body) ≡ bytes
+    → row ≡ take (length row) (stored_bytes id body) → ⊥
 
 -- What stands before the body was read, of a part of so many stored bytes; and as many bytes are left as the body may
 -- have.

@@ -1,15 +1,20 @@
 //! The stored bytes of a document: a length, the identifier, the body.
-ghost use Rattle.std.specs.Prelude.{◌≡◌, ◌≤◌, ◌+◌, [], IfOk, length};
+ghost use Rattle.std.specs.Prelude.{◌≡◌, ◌≤◌, ◌+◌, min, [], IfNone, IfOk, IfSome, length};
 ghost use Rattle.volume_meaning.specs.Slots.{cells_for};
 ghost use Rattle.worm_device.specs.Views.{Viewed};
 ghost use Rattle.append_file.specs.Reading.{IsPosition, HasRead};
-ghost use Rattle.document_store.specs.Heads.{DocumentEnds, HeadEnds, IsHead, SkipEnds, id_of};
+ghost use Rattle.document_store.specs.Heads.{DocumentEnds, HeadEnds, IsHead, IsHeadOfRow, IsNoFront, SkipEnds, id_of};
+ghost use Rattle.document_store.specs.declared.head.TheConstants.{FRONT_BYTES};
 
+use crate::identifier::is_identifier;
 use crate::text::Text;
 use append_file::{ContentFault, Position, read_byte};
 use std::alloc::{AllocError, Global};
 use volume_meaning::{MAX_BODY_BYTES, MAX_IDENTIFIER_BYTES};
 use worm_device::View;
+
+/// How many bytes stand before a body, at most.
+pub const FRONT_BYTES: usize = 201;
 
 /// What stands before the body, and how many bytes the body has.
 #[derive(Clone, Copy, Debug, PartialEq, Eq)]
@@ -19,6 +24,36 @@ pub struct Head {
     /// How many bytes it has, 1 to 200.
     pub id_length: u8,
     pub body_length: u32,
+}
+
+/// The head of a document of so many stored bytes of which this row has the first ones, 201 at least or all of them. There
+/// is none where no document begins so.
+pub fn head_of_row(bytes: u32, row: &[u8]) -> Option<Head>
+    requires some { 1 ≤ length row.now }
+    requires enough { min FRONT_BYTES bytes ≤ length row.now }
+    ensures some { IfSome result (IsHeadOfRow bytes row.now) }
+    ensures none { IfNone result (IsNoFront bytes row.now) }
+{
+    let id_length = row[0];
+    let before = 1 + u32::from(id_length);
+    if usize::from(id_length) > MAX_IDENTIFIER_BYTES || before > bytes {
+        return None;
+    }
+    let body_length = bytes - before;
+    if body_length > MAX_BODY_BYTES as u32 {
+        return None;
+    }
+    let written = &row[1..before as usize];
+    if !is_identifier(written) {
+        return None;
+    }
+    let mut id = [0; MAX_IDENTIFIER_BYTES];
+    id[..usize::from(id_length)].copy_from_slice(written);
+    Some(Head {
+        id,
+        id_length,
+        body_length,
+    })
 }
 
 /// Reads what stands before the body, in a part of so many stored bytes from `start` on.

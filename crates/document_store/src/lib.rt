@@ -36,7 +36,7 @@ mod text;
 pub use append_file::{ContentFault, Position, ROW_BYTES, next_row};
 pub use body::{BodyFault, body_into};
 pub use checked::{Stored, check};
-pub use head::{Head, identifier_of_head, read_document, read_head};
+pub use head::{Head, head_of_row, identifier_of_head, read_document, read_head};
 pub use identifier::{identifier_of, is_identifier, part_has_identifier, same_identifier};
 pub use laws::{held_is_one, held_is_standing, held_stays};
 pub use part::{Part, name_commit, read_part, slot_part};

@@ -32,13 +32,6 @@ abbrev pub KeepsTerms : Matcher → Matcher → Type 0
 KeepsTerms old new =
     (rule : WordRule) (terms : List (List ℕ)) → IsMatcherOf rule terms old → IsMatcherOf rule terms new
 
--- A body was read behind this head, and the answer says whether it has the terms of a matcher to which no byte had been
--- pushed.
-pub record HasSought (v : ViewState) (start bytes : ℕ) (h : Head) (m : Matcher) (matched : Bool) : Type 0 where
-  pub has : HasBody v start bytes h
-  pub says : (rule : WordRule) (terms : List (List ℕ)) → HasPushed m rule terms []
-      → IsTrue matched ↔ Matches rule has.body terms
-
 -- why words are not sought, where bytes were not read
 abbrev pub seek_fault_of : ContentFault → SeekFault
 seek_fault_of contents.Broken = seeks.Broken
@@ -72,12 +65,6 @@ PushNextEnds v w p q m n (Err seeks.Broken) =
     → IsTrue v.base.tells → HasBroken v.image start bytes)
 PushNextEnds v w p q m n (Err seeks.ReadFault) = Rose v.base.faults w.base.faults
 PushNextEnds v w p q m n (Err seeks.NoMemory) = w.base.faults ≡ v.base.faults
-
--- how reading the body behind a head with a matcher may end, and why
-abbrev pub MatchBodyEnds : ℕ → ℕ → Head → ViewState → ViewState → Matcher → Result Bool SeekFault → Type 0
-MatchBodyEnds start bytes h old new m (Ok matched) =
-    (new.base.faults ≡ old.base.faults) × HasSought new start bytes h m matched
-MatchBodyEnds start bytes h old new m (Err fault) = SeekFails start bytes old new fault
 
 -- a document was read that has the terms of a matcher
 pub record ReadMatch (v : ViewState) (start bytes : ℕ) (m : Matcher) (h : Head) : Type 0 where

@@ -6,16 +6,15 @@ ghost use Rattle.volume_meaning.specs.declared.word_rules.WordRule.{WordRule};
 ghost use Rattle.worm_device.specs.Views.{Viewed};
 ghost use Rattle.append_file.specs.Reading.{IsPosition};
 ghost use Rattle.word_reader.specs.Matching.{HasPushed};
-ghost use Rattle.document_store.specs.Heads.{IsHead};
 ghost use Rattle.document_store.specs.Looks.{IsPartOf, IsStated, ReadsOnce};
-ghost use Rattle.record_query.specs.Matching.{IsMatcherOf, KeepsTerms, MatchBodyEnds, PushNextEnds, SeekEnds, SlotEnds, seek_fault_of};
+ghost use Rattle.record_query.specs.Matching.{IsMatcherOf, KeepsTerms, PushNextEnds, SeekEnds, SlotEnds, seek_fault_of};
 ghost use Rattle.record_query.specs.declared.matching.SeekFault.TheVariants as seeks;
 
 use crate::found::Match;
 use cell_types::{Geometry, NoMemory, Refusal, Volume};
 use document_store::{
-    ContentFault, Head, Part, Position, ROW_BYTES, identifier_of_head, name_commit, next_row,
-    read_head, slot_part,
+    ContentFault, Head, Part, Position, ROW_BYTES, head_of_row, identifier_of_head, name_commit,
+    next_row, slot_part,
 };
 use std::alloc::Global;
 use word_reader::Matcher;
@@ -129,8 +128,19 @@ fn seek<V: View>(
 {
     forget_document(matcher);
     let mut position = Position::new(start, bytes);
-    let head = read_head(view, start, bytes, &mut position)?;
-    let matched = match_body(view, start, bytes, &mut position, &head, matcher, row)?;
+    // All that stands before a body has room in a row.
+    let first = next_row(view, &mut position, row)?;
+    let front = &row[..first];
+    let Some(head) = head_of_row(bytes, front) else {
+        return Err(SeekFault::Broken);
+    };
+    let before = 1 + usize::from(head.id_length);
+    matcher.push_all(&front[before..])?;
+    let mut count = (first - before) as u32;
+    while count < head.body_length {
+        count += push_next(view, &mut position, matcher, row)?;
+    }
+    let matched = matcher.finish()?;
     if matched {
         return Ok(Some(head));
     }
@@ -143,34 +153,6 @@ fn forget_document(matcher: &mut Matcher)
         → HasPushed matcher.new rule terms [] }
 {
     matcher.clear();
-}
-
-/// Reads the body behind a head, and answers whether each term of the matcher is among its words.
-fn match_body<V: View>(
-    view: &mut V,
-    start: u32,
-    bytes: u32,
-    position: &mut Position,
-    head: &Head,
-    matcher: &mut Matcher,
-    row: &mut [u8; ROW_BYTES],
-) -> Result<bool, SeekFault>
-    requires head { IsHead (V.seen view.old) start bytes position.old head.now }
-    requires inside { start + cells_for bytes ≤ (V.seen view.old).cells }
-    ensures viewed { Viewed (V.seen view.old) (V.seen view.new) }
-    ensures is { IsPosition position.new }
-    ensures bytes { position.new.bytes ≡ bytes }
-    ensures reads { (V.seen view.new).base.reads + position.old.read
-        ≤ (V.seen view.old).base.reads + position.new.read }
-    ensures matcher { KeepsTerms matcher.old matcher.new }
-    ensures ends { MatchBodyEnds start bytes head.now (V.seen view.old) (V.seen view.new) matcher.old result }
-{
-    let mut count = 0;
-    while count < head.body_length {
-        count += push_next(view, position, matcher, row)?;
-    }
-    let matched = matcher.finish()?;
-    Ok(matched)
 }
 
 /// Reads the next bytes of a part that has one more, pushes them, and answers how many they are.

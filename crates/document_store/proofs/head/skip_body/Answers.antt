@@ -1,7 +1,7 @@
 -- The body, byte by byte.
 use Rattle.std.proofs.Common.{◌≡◌, ℕ, subst, arith}
 use Rattle.cell_types.proofs.Passed.{handed}
-use Rattle.document_store.proofs.SoFar.{BodySoFar, fault_on, body_more, body_whole, body_left}
+use Rattle.document_store.proofs.SoFar.{BodySoFar, fault_on, body_more, body_whole, body_left, head_fits}
 use Rattle.document_store.proofs.head.skip_body.Goals as goal
 
 -- a byte was not read
@@ -14,7 +14,7 @@ returns-in_err-read_byte-clause-ends g c =
     c.read_byte.new.position _ c.in_err-read_byte.field-0.0 c.loop.invariant.viewed c.loop.invariant.faults
     c.loop.invariant.read
     (body_left old now c.args.start c.args.bytes c.args.position.now c.loop.position c.args.head.now c.loop.counter
-    c.requires.head c.loop.invariant c.loop-test.true)
+    (head_fits c.requires.head) c.loop.invariant c.loop-test.true)
     c.in_err-read_byte.ensures.ends)
 
 -- one more
@@ -34,7 +34,7 @@ returns-clause-ends g c =
     omega (arith, c.loop-test.false, c.loop.auto.counter-end) in (
       c.loop.invariant.faults,
       body_whole old now c.args.start c.args.bytes c.args.position.now c.loop.position
-          c.args.head.now c.requires.head
+          c.args.head.now (head_fits c.requires.head)
           (subst (λ (k : ℕ). BodySoFar old now c.args.start c.args.bytes c.args.position.now c.loop.position
           c.args.head.now k)
           at_end c.loop.invariant),
