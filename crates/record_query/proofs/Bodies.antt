@@ -1,5 +1,5 @@
 -- A body, read while its words are sought.
-use Rattle.std.proofs.Common.{◌≡◌, ◌<◌, ◌≤◌, ◌+◌, ◌∙◌, ℕ, Bool, true, false, List, [], ◌++◌, length, drop, Ok, Err, ap, arith, inl, inr, subst, sym}
+use Rattle.std.proofs.Common.{◌≡◌, ◌<◌, ◌≤◌, ◌+◌, ◌∙◌, ℕ, Bool, true, false, List, [], length, drop, Ok, Err, ap, arith, inl, inr, subst, sym}
 use Rattle.std.proofs.lemmas.Bool.{cases_lt}
 use Rattle.std.proofs.lemmas.List.{length-append, length-drop}
 use Rattle.std.specs.Prelude.{IsTrue}
@@ -39,19 +39,19 @@ pub seek_first : (old now : ViewState) (start bytes first count : ℕ) (q : Posi
     → PushEnds cleared n rest (Ok tt) → SeekSoFar old now start bytes q h m n count
 seek_first old now start bytes first count q h m cleared n row rest viewed same is reads read head long counted rest_is
     was pushed = record {
-  head = head.head;
-  read = record {
-    viewed = viewed;
-    faults = same;
-    is = is;
-    reads = omega (arith, reads);
-    body = rest;
-    is_length = ap length rest_is ∙ omega (arith, length-drop (1 + h.id_length) row, long, counted);
-    read = subst (HasRead now start bytes q)
-        (head.row_is ∙ ap (λ (l : List ℕ). stored_bytes (id_of h) l) (sym rest_is)) read;
-  };
-  pushed = λ rule terms is. pushed rule terms [] (was rule terms is);
-}
+      head = head.head;
+      read = record {
+        viewed = viewed;
+        faults = same;
+        is = is;
+        reads = omega (arith, reads);
+        body = rest;
+        is_length = ap length rest_is ∙ omega (arith, length-drop (1 + h.id_length) row, long, counted);
+        read = subst (HasRead now start bytes q)
+            (head.row_is ∙ ap (λ (l : List ℕ). stored_bytes (id_of h) l) (sym rest_is)) read;
+      };
+      pushed = λ rule terms is. pushed rule terms [] (was rule terms is);
+    }
 
 -- the next ones too
 pub seek_on : (old now new : ViewState) (start bytes : ℕ) (q r : Position) (h : Head) (m n o : Matcher) (k count : ℕ)
@@ -126,22 +126,22 @@ no_front start bytes old new q row viewed same read none = (
 pub seek_matches : (old now : ViewState) (start bytes : ℕ) (q : Position) (h : Head) (m n : Matcher) (matched : Bool)
     → SeekSoFar old now start bytes q h m n h.body_length → FinishEnds n (Ok matched) → matched ≡ true
     → ReadMatch now start bytes m h
-seek_matches old now start bytes q h m n matched so_far finish yes = record {
+seek_matches old now start bytes q h m n matched so_far finish has_all = record {
   has = body_whole old now start bytes (at_start start bytes) q h so_far.head so_far.read;
-  matches = λ rule terms was. (finish rule terms so_far.read.body (so_far.pushed rule terms was)).0 yes;
+  matches = λ rule terms was. (finish rule terms so_far.read.body (so_far.pushed rule terms was)).0 has_all;
 }
 
 -- a document without them
 pub seek_differs : (old now : ViewState) (start bytes : ℕ) (q : Position) (h : Head) (m n : Matcher) (matched : Bool)
     → SeekSoFar old now start bytes q h m n h.body_length → FinishEnds n (Ok matched) → matched ≡ false
     → ReadOther now start bytes m
-seek_differs old now start bytes q h m n matched so_far finish no =
+seek_differs old now start bytes q h m n matched so_far finish lacks =
     let has = body_whole old now start bytes (at_start start bytes) q h so_far.head so_far.read in
     record {
       id = id_of h;
       body = has.body;
       whole = has.whole;
-      differs = λ rule terms was matches. true_or (sym no
+      differs = λ rule terms was matches. true_or (sym lacks
           ∙ (finish rule terms so_far.read.body (so_far.pushed rule terms was)).1 matches);
     }
   where

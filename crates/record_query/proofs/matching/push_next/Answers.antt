@@ -1,8 +1,5 @@
 -- What was read is pushed.
 use Rattle.std.proofs.Common.{take}
-use Rattle.cell_types.proofs.Passed.{handed}
-use Rattle.record_query.specs.Matching.{seek_fault_of}
-use Rattle.record_query.proofs.Bodies.{row_unread}
 use Rattle.record_query.proofs.matching.push_next.Goals as goal
 
 pub returns-clause-ends : goal.returns-clause-ends
