@@ -1,4 +1,5 @@
 pub mod Among
+pub mod AtOnce
 pub mod Folding
 pub mod Passing
 pub mod Reading

@@ -17,7 +17,7 @@ none_last : (b : ℕ) (ss : List Sought) (s : Sought) → NoneBegins b ss → (s
 none_last b [] s none not = (not, tt)
 none_last b (x ∷ ss) s none not = (none.0, none_last b ss s none.1 not)
 
-one_more : (b : ℕ) (ss : List Sought) (i : ℕ) (s : Sought) → i < length ss → s ≡ get_or ss i s → NoneBegins b (take i ss)
+pub one_more : (b : ℕ) (ss : List Sought) (i : ℕ) (s : Sought) → i < length ss → s ≡ get_or ss i s → NoneBegins b (take i ss)
     → (s.found ≡ false → BeginsWith b s.bytes.items → ⊥) → NoneBegins b (take (i + 1) ss)
 one_more b ss i s less here none not =
     subst (NoneBegins b) (ap (λ (x : Sought). take i ss ++ x ∷ []) here ∙ sym (take_more ss i s less))

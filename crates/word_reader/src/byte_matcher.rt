@@ -1,11 +1,13 @@
 //! Whether terms are among the words of bytes, by the rule that reads bytes. It keeps none of them.
-ghost use Rattle.std.specs.Prelude.{◌≡◌, ◌<◌, ◌≤◌, ◌↔◌, [], ◌∷◌, ◌++◌, ℕ, List, IsTrue, IfOk, false, true, length, map, slice_index, take};
+ghost use Rattle.std.specs.Prelude.{◌≡◌, ◌<◌, ◌≤◌, ◌+◌, ◌↔◌, [], ◌∷◌, ◌++◌, ℕ, List, IsTrue, IfOk, false, true, length, map, slice_index, take};
 ghost use Rattle.std.specs.List.{list_all};
 ghost use Rattle.volume_meaning.specs.Words.{Matches, is_word_byte};
 ghost use Rattle.volume_meaning.specs.declared.word_rules.WordRule.TheVariants.{Ascii};
-ghost use Rattle.word_reader.specs.Matching.{KnowsBytes, IsTableOf, Marks, NoneAgrees, NoneBegins, SeekAll, byte_before, cleared, goes_on, has_ended, is_found, is_whole, known, pushed, quiet};
+ghost use Rattle.word_reader.specs.declared.lanes.TheConstants.{LANES};
+ghost use Rattle.word_reader.specs.Matching.{BeginsWith, KnowsBytes, IsTableOf, Marks, NoneAgrees, NoneBegins, SeekAll, byte_before, cleared, goes_on, has_ended, is_found, is_whole, known, pushed, quiet};
 
 use crate::Term;
+use crate::lanes::{LANES, bytes_before_term};
 use crate::reader::{is_of_word, lower};
 use std::alloc::{AllocError, Global};
 
@@ -69,6 +71,19 @@ impl Sought {
         self.front = 0;
     }
 
+    /// How many of the sixteen bytes from this place on are passed at once: if it was not found it begins with none of them.
+    fn passes(&self, bytes: &[u8], at: usize) -> usize
+        requires { at + LANES ≤ length bytes.now }
+        ensures most { result ≤ LANES }
+        ensures none { (k : ℕ) → k < result → self.now.found ≡ false
+            → BeginsWith (slice_index bytes.now (at + k)) self.now.bytes.items → ⊥ }
+    {
+        if self.found {
+            return LANES;
+        }
+        bytes_before_term(bytes, at, &self.bytes)
+    }
+
     /// Forgets all bytes.
     fn clear(&mut self)
         ensures { self.new ≡ cleared self.old }
@@ -95,6 +110,23 @@ fn rest_each(sought: &mut [Sought], inside: bool)
     for one in sought.iter_mut() {
         one.rest(inside);
     }
+}
+
+/// How many of the bytes from this place on are passed at once, sixteen at most: none of those that were not found begins
+/// with one.
+fn passed_at_once(sought: &[Sought], bytes: &[u8], at: usize) -> usize
+    requires { at ≤ length bytes.now }
+    ensures low { at + result ≤ length bytes.now }
+    ensures none { (k : ℕ) → k < result → NoneBegins (slice_index bytes.now (at + k)) sought.now }
+{
+    if bytes.len() - at < LANES {
+        return 0;
+    }
+    let mut count = LANES;
+    for one in sought {
+        count = count.min(one.passes(bytes, at));
+    }
+    count
 }
 
 /// Whether the present run is a front of some of them.
@@ -279,6 +311,24 @@ impl ByteMatcher {
         self.begins[usize::from(bytes[at])] != 0 && !is_of_word(self.before(bytes, at))
     }
 
+    /// The first place of the bytes that come next at which a run begins that some term may be, or how many they are.
+    fn next_begin(&self, bytes: &[u8]) -> usize
+        ensures low { result ≤ length bytes.now }
+        ensures none { IsTableOf self.now.begins self.now.sought.items → (at : ℕ) → at < result
+            → is_word_byte (byte_before self.now.last bytes.now at) ≡ false
+            → NoneBegins (slice_index bytes.now at) self.now.sought.items }
+    {
+        let mut at = passed_at_once(&self.sought, bytes, 0);
+        while at < bytes.len() {
+            if self.begins_at(bytes, at) {
+                return at;
+            }
+            at += 1;
+            at += passed_at_once(&self.sought, bytes, at);
+        }
+        at
+    }
+
     /// Takes bytes as long as nothing is to be kept of them, and answers how many.
     fn pass(&mut self, bytes: &[u8]) -> usize
         ensures low { result ≤ length bytes.now }
@@ -288,14 +338,9 @@ impl ByteMatcher {
         if self.kept {
             return 0;
         }
-        for at in 0..bytes.len() {
-            if self.begins_at(bytes, at) {
-                self.last = self.before(bytes, at);
-                return at;
-            }
-        }
-        self.last = self.before(bytes, bytes.len());
-        bytes.len()
+        let passed = self.next_begin(bytes);
+        self.last = self.before(bytes, passed);
+        passed
     }
 
     /// Takes these bytes.

@@ -30,6 +30,7 @@
 
 mod byte_matcher;
 mod folded;
+mod lanes;
 mod matcher;
 mod reader;
 mod term;
