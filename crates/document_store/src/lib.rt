@@ -16,8 +16,8 @@
 //!
 //! Most calls need a slot that is done. So call `slot_part` first: it says where the document lies, if the
 //! slot is done. Then `part_has_identifier` compares the identifier, `read_part` reads the document whole,
-//! and `read_head` with `next_row` reads it in pieces. `name_commit` names the commit cell of a document
-//! that is broken.
+//! and `next_row` reads it in pieces, of which `head_of_row` reads the head off the first. `name_commit`
+//! names the commit cell of a document that is broken.
 //!
 //! Stands on `append_file`, which reads bytes from cells, `commit_record`, which reads states of slots, and
 //! `host_ports`, whose sink takes a body. Begin with `part.rt`. `specs/Standing.antt` says what it means to

@@ -19,6 +19,8 @@
 //!     `hello`    1  2  3  4  5  found
 //!     `world`    -  -  -  -  -  0    1  2  3       - until the next separator: the run has left the term
 //!
+//! Bytes that no term which is still sought begins with are passed sixteen at once (`lanes.rt`).
+//!
 //! So by bytes it takes memory in `new` alone. By characters it keeps the bytes, and reads their words in `finish`.
 //! `clear` makes it ready for the next body. Its contract is a relation between the matcher, its rule, its terms and the
 //! bytes that were pushed, which no call loses.
