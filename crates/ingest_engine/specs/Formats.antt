@@ -40,6 +40,16 @@ pub record Looks (old new : DeviceState) (result : Result Unit Refusal) : Type 0
   pub only : IsStill old.foreign_writes new.foreign_writes → IsUnchanged old.image new.image
   pub ends : BlankLookEnds old new result
 
+-- How a blank device gets this as cell 0, and why it does not.
+abbrev pub VolumeCellEnds : List ℕ → DeviceState → DeviceState → Result Unit Refusal → Type 0
+VolumeCellEnds value old new (Ok _) =
+    (IsTrue old.tells → new.sure 0 ≡ Some value) × (IsTrue old.tells → IsBlankBelow old.cells old.image)
+VolumeCellEnds value old new (Err DeviceFault) = Rose old.faults new.faults
+VolumeCellEnds value old new (Err (NotBlank at)) =
+    (IsTrue old.tells → IsLeastWritten at old new)
+    × (IsTrue old.tells → IsStill old.foreign_writes new.foreign_writes → IsUnchanged old.image new.image)
+VolumeCellEnds value old new (Err refusal) = ⊥
+
 -- How formatting may end, and why: a layout that can't be is `TooSmall`, and a written cell `NotBlank`.
 abbrev pub FormatEnds : Layout → DeviceState → DeviceState → Result Unit Refusal → Type 0
 FormatEnds g old new (Ok _) =
