@@ -3,3 +3,4 @@ pub mod Parts
 pub mod Matched
 pub mod SoFar
 pub mod Searched
+pub mod AskingStamps

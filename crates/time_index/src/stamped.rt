@@ -2,15 +2,14 @@
 ghost use Rattle.time_index.specs.Asking.{AsksStamps};
 
 use cell_types::{Refusal, STAMPED_VERSION};
-use commit_record::volume_of;
-use worm_device::Device;
+use commit_record::open;
+use worm_device::{Device, Direct};
 
 /// That they are, which cell 0 tells. Makes one read.
 pub(crate) fn check_stamps<D: Device>(device: &mut D) -> Result<(), Refusal>
     ensures { AsksStamps (D.state device.old) (D.state device.new) result }
 {
-    let found = device.read(0)?;
-    let volume = volume_of(found, device.cells())?;
+    let volume = open(&mut Direct::new(device))?;
     if volume.geometry.version() < STAMPED_VERSION {
         return Err(Refusal::NoStamps);
     }

@@ -1,0 +1,30 @@
+-- The loan is not spoken of.
+use Rattle.std.proofs.Common.{rules, arith}
+use Rattle.cell_types.proofs.Passed.{handed}
+use Rattle.commit_record.specs.Opening.{refusal_of}
+use Rattle.time_index.proofs.AskingStamps.{no_volume, with_stamps, without_stamps}
+use Rattle.time_index.proofs.stamped.check_stamps.Goals as goal
+
+pub returns-in_err-volume : goal.returns-in_err-volume
+returns-in_err-volume g c =
+    let asks = no_volume (g.D.Device.state c.new.result.device.now) (g.D.Device.state c.open.new.view.device.now)
+    c.new.result.device.ghost_name c.open.new.view.device.ghost_name (g.met.D.Device.proper c.open.new.view.device.now)
+    c.open.ensures.viewed c.open.ensures.reads c.in_err-volume.field-0.0 c.in_err-volume.ensures.ends in
+    rw (handed c.from_residual.result (refusal_of c.in_err-volume.field-0.0) c.from_residual.ensures.1)
+    (search (rules, asks))
+
+pub returns-then-version-lt-STAMPED_VERSION : goal.returns-then-version-lt-STAMPED_VERSION
+returns-then-version-lt-STAMPED_VERSION g c =
+    let asks = without_stamps (g.D.Device.state c.new.result.device.now) (g.D.Device.state c.open.new.view.device.now)
+    c.new.result.device.ghost_name c.open.new.view.device.ghost_name (g.met.D.Device.proper c.open.new.view.device.now)
+    c.open.ensures.viewed c.open.ensures.reads c.in_ok-volume.volume c.in_ok-volume.ensures.ends
+    (omega (arith, c.if-version-lt-STAMPED_VERSION.true)) in
+    search (rules, asks)
+
+pub returns : goal.returns
+returns g c =
+    let asks = with_stamps (g.D.Device.state c.new.result.device.now) (g.D.Device.state c.open.new.view.device.now)
+    c.new.result.device.ghost_name c.open.new.view.device.ghost_name (g.met.D.Device.proper c.open.new.view.device.now)
+    c.open.ensures.viewed c.open.ensures.reads c.in_ok-volume.volume c.in_ok-volume.ensures.ends
+    (omega (arith, c.if-version-lt-STAMPED_VERSION.false)) in
+    search (rules, asks)
