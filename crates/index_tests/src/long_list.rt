@@ -4,8 +4,7 @@
 //!     block 0, at 36         keys 0 to 127: it is full, and leads on
 //!     blocks 1 to 15         46 keys each, from 127 + 256 d on in steps of 5, by pointers (2, d)
 //!     blocks 16 to 19        46 keys each, the last 44, from 127 + 4,096 d on in steps of 80, by pointers (3, d)
-ghost use Rattle.std.specs.Prelude.{◌≤◌, ◌+◌};
-ghost use Rattle.worm_device.specs.Views.{Viewed};
+ghost use Rattle.std.specs.Prelude.{◌≡◌, ◌≤◌, ◌+◌};
 
 use crate::searches::{Counted, TAG, count_entries, key_of};
 use cell_types::{Cell, Fault, RecordCell, encode};
@@ -110,7 +109,7 @@ fn long_list(alloc: Global) -> Result<MemoryDevice, Fail> {
 fn is_found<V: View>(view: &mut V, block: u32) -> bool
     requires head { HEAD + 256 ≤ (V.seen view.old).cells }
     requires edge { BOUNDS.edge ≤ (V.seen view.old).cells }
-    ensures viewed { Viewed (V.seen view.old) (V.seen view.new) }
+    ensures cells { (V.seen view.new).cells ≡ (V.seen view.old).cells }
 {
     let mut from = match block.checked_sub(1) {
         None => 0,
@@ -136,7 +135,7 @@ fn is_found<V: View>(view: &mut V, block: u32) -> bool
 fn lost_block<V: View>(view: &mut V) -> Option<u32>
     requires head { HEAD + 256 ≤ (V.seen view.old).cells }
     requires edge { BOUNDS.edge ≤ (V.seen view.old).cells }
-    ensures viewed { Viewed (V.seen view.old) (V.seen view.new) }
+    ensures cells { (V.seen view.new).cells ≡ (V.seen view.old).cells }
 {
     for block in 0..BLOCKS {
         if !is_found(view, block) {

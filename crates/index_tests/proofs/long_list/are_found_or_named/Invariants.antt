@@ -1,11 +1,11 @@
--- The view is one of the same device, and what is kept is known of it.
+-- The view has as many cells as before, and what is kept is known of it.
+use Rattle.std.proofs.Common.{◌≡◌}
 use Rattle.std.specs.Prelude.{IsTrue}
-use Rattle.worm_device.specs.Views.{Viewed}
 use Rattle.jump_block.specs.Keeping.{AreFrontsKept}
 use Rattle.index_tests.proofs.long_list.are_found_or_named.Given as goal
 
 abbrev pub invariant-loop-turn : goal.invariant-loop-turn
 invariant-loop-turn g l = record {
-  viewed : Viewed (g.V.View.seen l.fn.view) (g.V.View.seen l.view);
+  cells : (g.V.View.seen l.view).cells ≡ (g.V.View.seen l.fn.view).cells;
   kept : IsTrue (g.V.View.seen l.view).base.tells → AreFrontsKept (g.V.View.seen l.view).image l.fronts;
 }
