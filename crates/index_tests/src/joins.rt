@@ -48,6 +48,7 @@ impl<'a> Lists for TwoLists<'a> {
       may_name = λ e. ⊥;
       shows = λ e. ⊥;
       lands = λ which slot. ⊤;
+      live = λ slot. ⊤;
       next_asks = lists.next_asks;
       has_asks = lists.has_asks;
       next_reads = 0;

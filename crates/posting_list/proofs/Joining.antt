@@ -20,7 +20,7 @@ use Rattle.posting_list.specs.declared.sought_term.SoughtTerm.{SoughtTerm}
 use Rattle.zigzag_join.proofs.Joining.{paid_since}
 use Rattle.posting_list.specs.declared.has_slot.TheConstants.{HAS_READS}
 use Rattle.posting_list.specs.declared.next_slot.TheConstants.{NEXT_READS}
-use Rattle.posting_list.proofs.Owed.{owed_on, vouched_on}
+use Rattle.posting_list.proofs.Owed.{live_on, owed_on, vouched_on}
 
 one_term : (terms : List SoughtTerm) (which : ℕ) (a b : SoughtTerm) → slice_get terms which ≡ Some a
     → slice_get terms which ≡ Some b → a ≡ b
@@ -52,6 +52,7 @@ module _ (r : Reach) (terms : List SoughtTerm) (loan : ℕ) (s t : ViewState) (n
     naming = λ e may tells.
         let h = may (told_before viewed tells) in
         record { rule = h.rule; stands = viewed.image.keeps e.cell e.found h.stands; place = h.place };
+    living = λ slot was. live_on r slot s t viewed was;
     landing = λ still which slot lands tells.
         let there = lands (told viewed tells) in (
           there.0,
@@ -100,6 +101,7 @@ module _ (r : Reach) (terms : List SoughtTerm) (loan : ℕ) (s t : ViewState) (n
         next.ends.1,
         λ tells. (term, there, next.ends.5 (told_before next.viewed tells)),
         λ slot o past. next.ends.4 slot (owed_here slot o) past,
+        (next.ends.7, λ tells. next.ends.3 (told_before next.viewed tells)),
       ),
       λ yes tells. (term, there, next.ends.6 yes (told_before next.viewed tells)),
     )

@@ -102,6 +102,7 @@ module _ (r : Reach) (term : SoughtTerm) (from : ℕ) (old mid new : ViewState)
               same_tag = same_tag yes;
               same_slot = refl;
             },
+        live.ends.1,
       );
     }
 

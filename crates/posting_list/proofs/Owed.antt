@@ -4,17 +4,18 @@ use Rattle.std.specs.Prelude.{IsTrue, slice_get, slice_index_or}
 use Rattle.std.proofs.lemmas.Option.{slice_get_read, slice_get_cases}
 use Rattle.cell_types.specs.Image.{Image, Extends}
 use Rattle.cell_types.specs.Layout.{Layout, pool_at, list_at}
-use Rattle.volume_meaning.specs.Documents.{Document, Stands}
+use Rattle.volume_meaning.specs.Documents.{Document}
 use Rattle.volume_meaning.specs.Volumes.{IsVolume}
-use Rattle.volume_meaning.proofs.Extending.{holds_on, stands_on, volume_on}
+use Rattle.volume_meaning.proofs.Extending.{done_on, holds_on, volume_on}
 use Rattle.volume_meaning.specs.Blocks.{PostingFields, Trail, Leads, arrived, onwards}
 use Rattle.volume_meaning.specs.Keeping.{IsKept}
 use Rattle.volume_meaning.specs.Postings.{AreTags, HasTag, IsWordPosting}
 use Rattle.worm_device.specs.Views.{ViewState, Viewed}
 use Rattle.jump_index.specs.Searches.{HasBoundedTrail}
 use Rattle.jump_index.proofs.LookingLater.{trail_then}
-use Rattle.jump_index.proofs.Telling.{told}
-use Rattle.posting_list.specs.Owing.{IsSlotOwed, IsVouched, Owes}
+use Rattle.jump_index.proofs.Descending.{trail_fits}
+use Rattle.jump_index.proofs.Telling.{told, told_before}
+use Rattle.posting_list.specs.Owing.{IsLiveSlot, IsSlotOwed, IsVouched, Owes}
 use Rattle.posting_list.specs.Searches.{head_of}
 use Rattle.posting_list.specs.declared.reach.Reach.{Reach}
 use Rattle.posting_list.specs.declared.sought_term.SoughtTerm.{SoughtTerm}
@@ -121,6 +122,13 @@ owed_trail r term s slot o =
       below = omega (arith, key, t.within, t.most);
     }
 
+-- so the slot's number has 24 bits
+pub owed_small : (r : Reach) (term : SoughtTerm) (s : ViewState) (slot : ℕ) → IsSlotOwed r term s slot
+    → slot < 16777216
+owed_small r term s slot o =
+    let t = owed_trail r term s slot o in
+    omega (arith, t.from, trail_fits t.trail)
+
 -- what must not be passed must not be later
 pub owed_on : (r : Reach) (term : SoughtTerm) (slot : ℕ) (s t : ViewState) → Viewed s t → IsSlotOwed r term s slot
     → IsSlotOwed r term t slot
@@ -128,9 +136,7 @@ owed_on r term slot s t viewed o = record {
   tells = told viewed o.tells;
   volume = subst (λ n. IsVolume n t.image r.volume.geometry) (sym viewed.cells) (volume_on viewed.image o.volume);
   list = o.list;
-  id = o.id;
   body = o.body;
-  stands = subst (λ n. Stands n t.image slot o.id o.body) (sym viewed.cells) (stands_on viewed.image o.stands);
   postings = o.postings;
   tagged = o.tagged;
   trails = λ p is. let h = o.trails p is in
@@ -158,6 +164,21 @@ vouched_on r term slot old new e v = record {
   same_slot = v.same_slot;
 }
 
+-- and a slot that lists come to stays live
+pub live_on : (r : Reach) (slot : ℕ) (s t : ViewState) → Viewed s t → IsLiveSlot r s slot → IsLiveSlot r t slot
+live_on r slot s t viewed live = (
+  live.0,
+  λ tells.
+      let d = live.1 (told_before viewed tells) in
+      record {
+        start = d.start;
+        length = d.length;
+        bytes = d.bytes;
+        journal = d.journal;
+        done = done_on viewed.image d.done;
+      },
+)
+
 -- a kept document's slot must not be passed
 pub kept_owed : (r : Reach) (terms : List SoughtTerm) (s : ViewState) (which : ℕ) (term : SoughtTerm) (d : Document)
     → IsTrue s.base.tells → IsVolume s.cells s.image r.volume.geometry → r.bounds.pool ≡ pool_at r.volume.geometry
@@ -171,9 +192,7 @@ kept_owed r terms s which term d tells volume pool there list kept tagged = reco
     tells = tells;
     volume = volume;
     list = list;
-    id = d.id;
     body = d.body;
-    stands = kept.stands;
     postings = kept.postings;
     tagged = tagged;
     trails = λ p is. let h = kept.trails term.list p (omega (arith, list)) (inl is) in

@@ -137,7 +137,7 @@ gathers_these r q terms others loan name s t n h i j result same ends =
           → GatherEnds (counted_lists r terms loan s n h) (counted_lists r terms name t i j) result
           → TermsGather r terms s t result
       unnamed (Ok slots) ends =
-          record { ends = record { all = ends.all; vouched = ends.vouched; rise = ends.rise } }
+          record { ends = record { all = ends.all; vouched = ends.vouched; live = ends.live; rise = ends.rise } }
       unnamed (Err refusals.DeviceFault) ends = record { ends = ends }
       unnamed (Err (refusals.Tampered e)) ends = record { ends = ends }
       unnamed (Err refusals.NoMemory) ends = record { ends = tt }

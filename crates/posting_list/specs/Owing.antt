@@ -1,8 +1,8 @@
--- Which slots the list of a term must not pass, and for which it vouches.
+-- Which slots the list of a term must not pass, for which it vouches, and to which it comes.
 use Rattle.std.specs.Prelude.{◌≡◌, ◌<◌, ◌+◌, ◌/◌, ℕ, List, Some, IsTrue, slice_get}
 use Rattle.cell_types.specs.Image.{Image}
 use Rattle.cell_types.specs.Layout.{list_at}
-use Rattle.volume_meaning.specs.Documents.{Stands}
+use Rattle.volume_meaning.specs.Slots.{IsDoneSlot}
 use Rattle.volume_meaning.specs.Volumes.{Holds, IsVolume}
 use Rattle.volume_meaning.specs.Blocks.{PostingFields, posting_record, Leads, Trail}
 use Rattle.volume_meaning.specs.Postings.{HasPostings, HasTag, IsWordPosting}
@@ -10,16 +10,14 @@ use Rattle.worm_device.specs.Views.{ViewState}
 use Rattle.posting_list.specs.declared.reach.Reach.{Reach}
 use Rattle.posting_list.specs.declared.sought_term.SoughtTerm.{SoughtTerm}
 
--- The term's list must not pass the slot: its document stands and has the term's tag, its postings exist, and those in
--- the term's list all have trails from the list's first block. Where a view does not tell its image nothing is known
--- to stand.
+-- The term's list must not pass the slot: of some body that has the term's tag the postings exist, and the slot's in the
+-- term's list all have trails from the list's first block. Whether a document of this body stands in the slot is not
+-- asked. Where a view does not tell its image nothing is known to stand.
 pub record IsSlotOwed (r : Reach) (term : SoughtTerm) (s : ViewState) (slot : ℕ) : Type 0 where
   pub tells : IsTrue s.base.tells
   pub volume : IsVolume s.cells s.image r.volume.geometry
   pub list : term.list < r.volume.geometry.lists
-  pub id : List ℕ
   pub body : List ℕ
-  pub stands : Stands s.cells s.image slot id body
   pub postings : HasPostings r.volume.geometry body
   pub tagged : HasTag r.volume.geometry body term.list term.tag
   pub trails : (p : PostingFields) → IsWordPosting r.volume.geometry body slot term.list p
@@ -64,3 +62,8 @@ abbrev pub Lands : Reach → List SoughtTerm → ViewState → ℕ → ℕ → T
 Lands r terms s which slot =
     IsTrue s.base.tells
     → (term : SoughtTerm) × (slice_get terms which ≡ Some term) × HasPosting r term s.image slot
+
+-- the slot is one of the volume, and done where the view tells its image: lists come to such slots alone
+abbrev pub IsLiveSlot : Reach → ViewState → ℕ → Type 0
+IsLiveSlot r s slot =
+    (slot < r.volume.geometry.slots) × (IsTrue s.base.tells → IsDoneSlot r.volume.geometry s.image slot)

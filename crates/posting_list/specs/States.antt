@@ -3,7 +3,7 @@ use Rattle.std.specs.Prelude.{ℕ, List, [], ◌∷◌, length, map}
 use Rattle.worm_device.specs.Views.{ViewState}
 use Rattle.zigzag_join.specs.Lists.{ListsState}
 use Rattle.posting_list.specs.Naming.{MayName, ShowsListEvidence}
-use Rattle.posting_list.specs.Owing.{Lands, Owes, Vouches}
+use Rattle.posting_list.specs.Owing.{IsLiveSlot, Lands, Owes, Vouches}
 use Rattle.posting_list.specs.declared.reach.Reach.{Reach}
 use Rattle.posting_list.specs.declared.sought_term.SoughtTerm.{SoughtTerm}
 use Rattle.posting_list.specs.declared.has_slot.TheConstants.{HAS_READS}
@@ -31,6 +31,7 @@ counted_lists r terms loan s next_asks has_asks = record {
   may_name = MayName r s;
   shows = ShowsListEvidence r s;
   lands = Lands r terms s;
+  live = IsLiveSlot r s;
   next_asks = next_asks;
   has_asks = has_asks;
   next_reads = NEXT_READS;

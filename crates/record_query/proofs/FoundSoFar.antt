@@ -1,5 +1,5 @@
 -- The first slots of a row were searched.
-use Rattle.std.proofs.Common.{◌≡◌, ◌<◌, ◌≤◌, ◌+◌, ◌⊎◌, ℕ, List, [], ◌∷◌, ◌++◌, length, Some, None, Option, Ok, Err, refl, sym, ap, ◌∙◌, subst, ⊎_elim, arith}
+use Rattle.std.proofs.Common.{◌≡◌, ◌<◌, ◌≤◌, ◌+◌, ◌⊎◌, ℕ, List, [], ◌∷◌, ◌++◌, length, Some, None, Option, Ok, Err, refl, sym, ap, ◌∙◌, subst, inl, inr, ⊎_elim, arith}
 use Rattle.std.proofs.lemmas.List.Elements.{Contains-append_left, Contains-append_right, Contains-push, Contains-push_cases}
 use Rattle.std.specs.Prelude.{Contains, IsTrue, slice_index}
 use Rattle.cell_types.specs.Image.{Image, Extends}
@@ -7,7 +7,8 @@ use Rattle.cell_types.specs.Layout.{Layout}
 use Rattle.cell_types.specs.declared.refusal.Fault.TheVariants as faults
 use Rattle.cell_types.specs.declared.refusal.Refusal.{Refusal}
 use Rattle.cell_types.specs.declared.refusal.Refusal.TheVariants.{DeviceFault, NoMemory, Tampered}
-use Rattle.volume_meaning.specs.Words.{rule_of}
+use Rattle.volume_meaning.specs.Slots.{IsDoneSlot}
+use Rattle.volume_meaning.specs.Words.{Matches, rule_of}
 use Rattle.worm_device.specs.State.{DeviceState}
 use Rattle.worm_device.specs.Views.{Viewed, seen_directly}
 use Rattle.worm_device.proofs.Resting.{viewed_self, viewed_then}
@@ -16,11 +17,12 @@ use Rattle.zigzag_join.specs.Gathering.{GatheredRise}
 use Rattle.document_store.specs.Looks.{ReadsOnce}
 use Rattle.document_store.specs.Standing.{HoldsDocument}
 use Rattle.record_query.specs.Among.{AmongEnds, IsSlotCost, FoundAmong, IsMatchAmong, ReadsEach, added, row_cost}
-use Rattle.record_query.specs.Finding.{MatchesRise}
-use Rattle.record_query.specs.Matching.{HasNoMatch, IsMatchIn, IsMatcherOf, KeepsTerms, SlotEnds}
+use Rattle.record_query.specs.Finding.{HasMatchAt, MatchesRise}
+use Rattle.record_query.specs.Matching.{HoldsOther, IsMatchIn, IsMatcherOf, KeepsTerms, MayBePassed, SlotEnds}
 use Rattle.record_query.specs.declared.found.Match.{Match}
 use Rattle.document_store.proofs.Holding.{held_is_one, held_on}
 use Rattle.document_store.proofs.Naming.{fails_from}
+use Rattle.record_query.proofs.Matched.{done_of_held, slot_done_on}
 use Rattle.volume_meaning.proofs.Extending.{done_on}
 use Rattle.worm_device.proofs.Images.{extends_then}
 use Rattle.record_query.proofs.Costs.{cost_more, cost_within}
@@ -45,12 +47,17 @@ found_none : (g : Layout) (slots : List ℕ) (terms : List (List ℕ)) (image : 
     → FoundAmong g slots 0 terms image image []
 found_none g slots terms image = record {
   all = λ i id body less. absurd (omega (arith, less));
+  judged = λ i less. absurd (omega (arith, less));
   only = λ found among. absurd (omega (arith, among.1));
   rise = tt;
 }
 
 module _ (g : Layout) (slots : List ℕ) (k : ℕ) (terms : List (List ℕ)) (old now new : Image) (grows : Extends old now)
     (goes : Extends now new) (matches : List Match) (so_far : FoundAmong g slots k terms old now matches) where
+  -- the slot has its match, or holds a document that lacks one of the terms
+  abbrev IsJudgedAt : Image → ℕ → List Match → Type 0
+  IsJudgedAt image n all = HasMatchAt all n ⊎ HoldsOther g image n terms
+
   match_on : (found : Match) → Contains matches found → IsMatchAmong g new slots (k + 1) terms found
   match_on found among =
       let was = so_far.only found among in
@@ -72,13 +79,48 @@ module _ (g : Layout) (slots : List ℕ) (k : ℕ) (terms : List (List ℕ)) (ol
   held_here i id body here was =
       held_on grows (subst (λ (j : ℕ). HoldsDocument g old (slice_index slots j) id body) here was)
 
+  -- what was judged goes on being so
+  judged_on : (all : List Match) (n : ℕ) → ((found : Match) → Contains matches found → Contains all found)
+      → IsJudgedAt now n matches → IsJudgedAt new n all
+  judged_on all n among was = ⊎_elim
+      (λ (h : HasMatchAt matches n).
+      inl (record { found = h.found; among = among h.found h.among; slot_is = h.slot_is }))
+      (λ (o : HoldsOther g now n terms).
+      inr (record { id = o.id; body = o.body; holds = held_on goes o.holds; lacks = o.lacks }))
+      was
+
+  -- and so is the slot of place k
+  judged_more : (all : List Match) → ((found : Match) → Contains matches found → Contains all found)
+      → (IsDoneSlot g now (slice_index slots k) → IsJudgedAt new (slice_index slots k) all)
+      → (i : ℕ) → i < k + 1 → IsDoneSlot g old (slice_index slots i) → IsJudgedAt new (slice_index slots i) all
+  judged_more all among here i less done = ⊎_elim
+      (λ (before : i < k). judged_on all (slice_index slots i) among (so_far.judged i before done))
+      (λ (at : i ≡ k).
+      subst (λ (j : ℕ). IsJudgedAt new (slice_index slots j) all) (sym at)
+      (here (slot_done_on grows (subst (λ (j : ℕ). IsDoneSlot g old (slice_index slots j)) at done))))
+      (below_or_at i k less)
+
+  -- one that may be passed held no document with the terms
+  passed_none : MayBePassed g now new (slice_index slots k) terms → (id body : List ℕ)
+      → HoldsDocument g now (slice_index slots k) id body → Matches (rule_of g.version) body terms → ⊥
+  passed_none passed id body was has = ⊎_elim
+      (λ (undone : IsDoneSlot g now (slice_index slots k) → ⊥). undone (done_of_held was))
+      (λ (other : HoldsOther g new (slice_index slots k) terms).
+      let one = held_is_one g new (slice_index slots k) id body other.id other.body (held_on goes was) other.holds in
+      other.lacks (subst (λ (b : List ℕ). Matches (rule_of g.version) b terms) one.1 has))
+      passed
+
   -- one more had no match
-  found_no_more : HasNoMatch g now (slice_index slots k) terms → FoundAmong g slots (k + 1) terms old new matches
-  found_no_more none = record {
+  found_no_more : MayBePassed g now new (slice_index slots k) terms → FoundAmong g slots (k + 1) terms old new matches
+  found_no_more passed = record {
     all = λ i id body less was has. ⊎_elim
         (λ (before : i < k). so_far.all i id body before was has)
-        (λ (here : i ≡ k). absurd (none id body (held_here i id body here was) has))
+        (λ (here : i ≡ k). absurd (passed_none passed id body (held_here i id body here was) has))
         (below_or_at i k less);
+    judged = judged_more matches (λ found among. among)
+        (λ done. ⊎_elim
+        (λ (undone : IsDoneSlot g now (slice_index slots k) → ⊥). absurd (undone done))
+        (λ (other : HoldsOther g new (slice_index slots k) terms). inr other) passed);
     only = match_on;
     rise = so_far.rise;
   }
@@ -108,6 +150,8 @@ module _ (g : Layout) (slots : List ℕ) (k : ℕ) (terms : List (List ℕ)) (ol
           bytes_is = is.bytes_is ∙ ap length same.1;
         })
         (below_or_at i k less);
+    judged = judged_more (matches ++ one ∷ []) (λ found among. Contains-append_left matches (one ∷ []) found among)
+        (λ done. inl (record { found = one; among = Contains-push matches one; slot_is = is.slot_is }));
     only = λ found among. ⊎_elim
         (λ (before : Contains matches found). match_on found before)
         (λ (here : one ≡ found). subst (IsMatchAmong g new slots (k + 1) terms) here (record {

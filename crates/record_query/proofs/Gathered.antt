@@ -24,9 +24,7 @@ module _ (r : Reach) (terms : List SoughtTerm) (old new : DeviceState) (a b : â„
       tells = o.owed.tells;
       volume = o.owed.volume;
       list = o.owed.list;
-      id = o.owed.id;
       body = o.owed.body;
-      stands = o.owed.stands;
       postings = o.owed.postings;
       tagged = o.owed.tagged;
       trails = o.owed.trails;
@@ -47,6 +45,7 @@ module _ (r : Reach) (terms : List SoughtTerm) (old new : DeviceState) (a b : â„
     ends = record {
       all = Î» slot owe small. g.ends.all slot (all_owe slot owe) small;
       vouched = g.ends.vouched;
+      live = g.ends.live;
       rise = g.ends.rise;
     };
   }

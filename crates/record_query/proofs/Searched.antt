@@ -1,10 +1,11 @@
 -- What a search answers, over settling, the lists, and the slots that they have in common.
-use Rattle.std.proofs.Common.{◌≡◌, ◌<◌, ℕ, zero, suc, List, [], ◌∷◌, Result, Some, Ok, Err, inl, inr, refl, sym, map, length, subst, arith, ◌≤◌}
+use Rattle.std.proofs.Common.{◌≡◌, ◌<◌, ℕ, zero, suc, List, [], ◌∷◌, Result, Some, Ok, Err, inl, inr, ⊎_elim, refl, sym, map, length, subst, arith, ◌≤◌}
 use Rattle.std.proofs.lemmas.Nat.{mod_below}
+use Rattle.std.proofs.lemmas.List.{length-map}
 use Rattle.std.proofs.lemmas.List.Elements.{Contains-append_right}
 use Rattle.std.specs.Global.{Vec}
-use Rattle.std.specs.Prelude.{Contains, IsTrue, slice_get}
-use Rattle.cell_types.specs.Image.{Image}
+use Rattle.std.specs.Prelude.{Contains, IsTrue, slice_get, slice_index}
+use Rattle.cell_types.specs.Image.{Extends, Image}
 use Rattle.cell_types.specs.Layout.{Layout}
 use Rattle.cell_types.specs.declared.refusal.Refusal.{Refusal}
 use Rattle.cell_types.specs.declared.refusal.Refusal.TheVariants.{DeviceFault, NoMemory, NotAVolume, NotFormatted, Tampered, WrongSize}
@@ -14,6 +15,7 @@ use Rattle.volume_meaning.specs.Words.{Matches, rule_of}
 use Rattle.volume_meaning.proofs.Extending.{volume_on}
 use Rattle.volume_meaning.specs.Keeping.{IsKept, Kept}
 use Rattle.volume_meaning.proofs.KeepingLaws.{kept_on}
+use Rattle.volume_meaning.proofs.Trails.{trail_on}
 use Rattle.tamper_rules.proofs.GivenUp.{one_layout}
 use Rattle.worm_device.specs.Counts.{IsStill}
 use Rattle.worm_device.specs.State.{DeviceState}
@@ -30,6 +32,7 @@ use Rattle.posting_list.specs.States.{lists_over}
 use Rattle.posting_list.specs.Terms.{sought_of}
 use Rattle.posting_list.specs.declared.sought_term.SoughtTerm.{SoughtTerm}
 use Rattle.posting_list.proofs.Evidence.{state_rule}
+use Rattle.posting_list.proofs.Owed.{owed_small}
 use Rattle.document_store.specs.Looks.{NamesDocument, of_document, of_state}
 use Rattle.document_store.specs.Standing.{HoldsDocument}
 use Rattle.document_store.proofs.Holding.{held_on, held_stands, stands_held}
@@ -37,7 +40,8 @@ use Rattle.identifier_lookup.proofs.Licence.{names_licensed}
 use Rattle.record_query.specs.Looking.{HasLooked}
 use Rattle.record_query.proofs.Looking.{has_settled, is_ready, same_since, still_looking, still_settling, tells_settled, volume_now, looked_from, looked_more}
 use Rattle.record_query.specs.Among.{AmongEnds, FoundAmong, ReadsEach}
-use Rattle.record_query.specs.Finding.{FindEnds, Finds, HasMatch, HasTerms, IsFindRule, NamesFindRule, Searches}
+use Rattle.record_query.specs.Finding.{FindEnds, Finds, HasMatch, HasMatchAt, HasTerms, IsFindRule, IsJudged, IsLedTo, IsListed, NamesFindRule, Searches}
+use Rattle.record_query.specs.Matching.{HoldsOther}
 use Rattle.record_query.specs.Reaching.{reach_of}
 use Rattle.record_query.specs.declared.found.Match.{Match}
 use Rattle.record_query.proofs.Briefly.{briefly_gathered, briefly_searched, briefly_unsettled}
@@ -91,6 +95,22 @@ has_by : {cells : ℕ} {image : Image} {body : List ℕ} {terms : List (List ℕ
     → (has : HasTerms cells image body terms) → has.layout ≡ g → Matches (rule_of g.version) body terms
 has_by {cells} {image} {body} {terms} has same =
     subst (λ (h : Layout). Matches (rule_of h.version) body terms) same has.matches
+
+-- a slot to which lists lead goes on being one
+led_on : {cells : ℕ} {old new : Image} {terms : List (List ℕ)} {n : ℕ} → Extends old new
+    → IsLedTo cells old terms n → IsLedTo cells new terms n
+led_on e led = record {
+  layout = led.layout;
+  volume = volume_on e led.volume;
+  each = λ word among.
+      let l = led.each word among in
+      record {
+        body = l.body;
+        postings = l.postings;
+        tagged = l.tagged;
+        trails = λ p is. let t = l.trails p is in (t.0, trail_on e t.1);
+      };
+}
 
 -- the list and the tag of each term
 abbrev sought : ℕ → List (List ℕ) → List SoughtTerm
@@ -180,6 +200,15 @@ module _ (owed : KeptAreOwed) (terms : List (List ℕ)) (r : Ready) (old settled
     after : HasLooked r old settled new
     after = looked_more before then
 
+    abbrev found_among : List Match → Type 0
+    found_among matches =
+        FoundAmong r.volume.geometry slots.items (length slots.items) terms mid.image new.image matches
+
+    -- to slot n lead the lists of all terms
+    abbrev all_listed : ℕ → Type 0
+    all_listed n =
+        (word : List ℕ) → Contains terms word → IsListed settled.cells settled.image r.volume.geometry word n
+
     module _ (tells : IsTrue old.tells) where
       module _ (d : Document) (has : Matches (rule_of r.volume.geometry.version) d.body terms)
           (kept : IsKept settled.cells settled.image r.volume.geometry d) where
@@ -213,6 +242,54 @@ module _ (owed : KeptAreOwed) (terms : List (List ℕ)) (r : Ready) (old settled
             (subst (λ (n : ℕ). HoldsDocument r.volume.geometry mid.image n d.id d.body) (sym here.is)
             (held_on seen.image held)) has)
 
+      -- no list may pass a slot to which all lead
+      listed_owe : (n : ℕ) → all_listed n → AllOwe (lists_over (reach_of r) these 0 (seen_directly settled 0)) n
+      listed_owe n each which less =
+          let term = sought_at r.volume.geometry.lists terms which less in
+          let l = each term.0 term.2 in
+          record {
+            term = sought_of r.volume.geometry.lists term.0;
+            there = term.1;
+            owed = record {
+              tells = tells_settled before tells;
+              volume = (is_ready before tells).volume;
+              list = mod_below _ r.volume.geometry.lists (omega (arith, s.ends.0.layout.some_lists));
+              body = l.body;
+              postings = l.postings;
+              tagged = l.tagged;
+              trails = l.trails;
+            };
+          }
+
+      -- so it was gathered, is done, and was looked at
+      listed_judged : (matches : List Match) → found_among matches → 1 ≤ length terms → (n : ℕ) → all_listed n
+          → IsJudged new.cells new.image terms matches n
+      listed_judged matches f some n each =
+          let owe = listed_owe n each in
+          let first = owe 0 (omega (arith, some, length-map terms (sought_of r.volume.geometry.lists))) in
+          let here = g.ends.all n owe (owed_small (reach_of r) first.term (seen_directly settled 0) n first.owed) in
+          let live = g.ends.live here.place here.inside in
+          subst (IsJudged new.cells new.image terms matches) here.is
+          (⊎_elim (λ (h : HasMatchAt matches (slice_index slots.items here.place)). inl h)
+          (λ (o : HoldsOther r.volume.geometry new.image (slice_index slots.items here.place) terms). inr (record {
+            id = o.id;
+            body = o.body;
+            stands = held_stands r.volume.geometry new.cells new.image (slice_index slots.items here.place) o.id o.body
+                (volume_now after tells) o.holds;
+            lacks = λ has. o.lacks (has_by has (one_layout {cells = new.cells} {more = new.cells} has.layout
+                r.volume.geometry has.volume (volume_now after tells)));
+          }))
+          (f.judged here.place here.inside (live.1 (told tells))))
+
+      led_judged : (matches : List Match) → found_among matches → 1 ≤ length terms → (n : ℕ)
+          → IsLedTo settled.cells settled.image terms n → IsJudged new.cells new.image terms matches n
+      led_judged matches f some n led =
+          let one : led.layout ≡ r.volume.geometry =
+          one_layout {cells = settled.cells} {more = settled.cells} led.layout r.volume.geometry led.volume
+          (is_ready before tells).volume in
+          listed_judged matches f some n
+          (λ word among. subst (λ (h : Layout). IsListed settled.cells settled.image h word n) one (led.each word among))
+
       -- of documents that are kept once the volume was settled, those that have the terms
       all_found : (matches : List Match)
           → FoundAmong r.volume.geometry slots.items (length slots.items) terms mid.image new.image matches
@@ -226,10 +303,13 @@ module _ (owed : KeptAreOwed) (terms : List (List ℕ)) (r : Ready) (old settled
           kept_found d has (subst (λ (h : Layout). IsKept settled.cells settled.image h d) one (kept.each d among))
           matches f
 
-      finds : (matches : List Match)
-          → FoundAmong r.volume.geometry slots.items (length slots.items) terms mid.image new.image matches
-          → Finds terms old new matches
-      finds matches f = record {
+      finds : (matches : List Match) → found_among matches → 1 ≤ length terms → Finds terms old new matches
+      finds matches f some = record {
+        judged = λ n led. led_judged matches f some n
+            (subst (λ (k : ℕ). IsLedTo k settled.image terms n) (sym s.called.cells) (led_on s.called.image led));
+        judged_alone = λ still n led. led_judged matches f some n
+            (subst (λ (i : Image). IsLedTo settled.cells i terms n) (same_since after still)
+            (subst (λ (k : ℕ). IsLedTo k new.image terms n) after.looked.cells led));
         all = λ documents kept d among has. all_found matches f documents
             (subst (λ (k : ℕ). Kept k settled.image documents) (sym s.called.cells) (kept_on s.called.image kept))
             d among (has_by has (one_layout {cells = old.cells} {more = settled.cells} has.layout r.volume.geometry
@@ -254,12 +334,13 @@ module _ (owed : KeptAreOwed) (terms : List (List ℕ)) (r : Ready) (old settled
       }
 
     ends_of : (result : Result (Vec Match) Refusal)
-        → AmongEnds r.volume.geometry slots.items terms mid new result → FindEnds terms old new result
-    ends_of (Ok matches) ends = λ tells.
-        finds tells matches.items (ends (told tells))
-    ends_of (Err NoMemory) ends = tt
-    ends_of (Err DeviceFault) ends = omega (arith, s.called.faults, seen.called.faults, ends.refuses)
-    ends_of (Err (Tampered e)) ends = λ tells.
+        → AmongEnds r.volume.geometry slots.items terms mid new result → 1 ≤ length terms
+        → FindEnds terms old new result
+    ends_of (Ok matches) ends some = λ tells.
+        finds tells matches.items (ends (told tells)) some
+    ends_of (Err NoMemory) ends some = tt
+    ends_of (Err DeviceFault) ends some = omega (arith, s.called.faults, seen.called.faults, ends.refuses)
+    ends_of (Err (Tampered e)) ends some = λ tells.
         let licence = names_licensed r.volume.geometry r.horizon r.edge ends.n (seen_directly mid 0)
         (seen_directly new 0) e then (ends.refuses.2 (told tells)) in
         record {
@@ -271,7 +352,7 @@ module _ (owed : KeptAreOwed) (terms : List (List ℕ)) (r : Ready) (old settled
               (still_second seen.called.foreign_writes then.called.foreign_writes (still_looking after still))
               (volume_now after tells) (reach_is after tells still).horizon (edge_is after tells still);
         }
-    ends_of (Err refusal) ends = absurd ends.refuses
+    ends_of (Err refusal) ends some = absurd ends.refuses
 
     -- the evidence is by a rule of a slot's cells, or by that of its document
     rule_of_end : (result : Result (Vec Match) Refusal)
@@ -290,7 +371,7 @@ module _ (owed : KeptAreOwed) (terms : List (List ℕ)) (r : Ready) (old settled
     searched result ends some few each = record {
       called = called_then (called_then s.called seen.called) then.called;
       comes = comes_to_settled after;
-      ends = ends_of result ends;
+      ends = ends_of result ends some;
       rule = rule_of_end result ends;
       reads = briefly_searched terms r old settled s mid seen few some slots g new then each;
     }

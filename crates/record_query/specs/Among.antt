@@ -1,5 +1,5 @@
 -- What is found in the slots of a row, between two images of a settled volume.
-use Rattle.std.specs.Prelude.{◌≡◌, ◌<◌, ◌≤◌, ◌+◌, ℕ, zero, suc, List, [], ◌∷◌, ◌++◌, length, slice_index, Contains, Option, Some, None, Result, Ok, Err, IsTrue, ⊤}
+use Rattle.std.specs.Prelude.{◌≡◌, ◌<◌, ◌≤◌, ◌+◌, ◌⊎◌, ℕ, zero, suc, List, [], ◌∷◌, ◌++◌, length, slice_index, Contains, Option, Some, None, Result, Ok, Err, IsTrue, ⊤}
 use Rattle.std.specs.Global.{Vec}
 use Rattle.cell_types.specs.Image.{Image}
 use Rattle.cell_types.specs.Layout.{Layout}
@@ -8,12 +8,12 @@ use Rattle.cell_types.specs.declared.refusal.Refusal.TheVariants.{NoMemory}
 use Rattle.volume_meaning.specs.Words.{Matches, rule_of}
 use Rattle.worm_device.specs.State.{DeviceState}
 use Rattle.worm_device.specs.Views.{seen_directly}
-use Rattle.volume_meaning.specs.Slots.{IsDone, cells_for}
+use Rattle.volume_meaning.specs.Slots.{IsDone, IsDoneSlot, cells_for}
 use Rattle.commit_record.specs.States.{stamp_cells}
 use Rattle.document_store.specs.Looks.{LookRefuses, ReadsOnce}
 use Rattle.document_store.specs.Standing.{HoldsDocument}
-use Rattle.record_query.specs.Finding.{HasMatch, MatchesRise}
-use Rattle.record_query.specs.Matching.{IsMatchIn}
+use Rattle.record_query.specs.Finding.{HasMatch, HasMatchAt, MatchesRise}
+use Rattle.record_query.specs.Matching.{HoldsOther, IsMatchIn}
 use Rattle.record_query.specs.declared.found.Match.{Match}
 
 -- with what was found in one more slot
@@ -29,12 +29,19 @@ pub record IsMatchAmong (g : Layout) (image : Image) (slots : List ℕ) (k : ℕ
   pub at : slice_index slots place ≡ found.slot
   pub is : IsMatchIn g image found.slot terms found
 
--- Each document that one of the first k slots of the row held, and that has the terms, has its match, and each match
--- tells of one that is held; slots rise.
+-- the slots of the row are of the volume
+abbrev pub AreOfVolume : Layout → List ℕ → Type 0
+AreOfVolume g slots = (i : ℕ) → i < length slots → slice_index slots i < g.slots
+
+-- Each document that one of the first k slots of the row held, and that has the terms, has its match. Each of these slots
+-- that was done has its match, or holds a document that lacks one of the terms. Each match tells of one that is held; and
+-- slots rise.
 pub record FoundAmong (g : Layout) (slots : List ℕ) (k : ℕ) (terms : List (List ℕ)) (before after : Image)
     (matches : List Match) : Type 0 where
   pub all : (i : ℕ) (id body : List ℕ) → i < k → HoldsDocument g before (slice_index slots i) id body
       → Matches (rule_of g.version) body terms → HasMatch matches (slice_index slots i) id body
+  pub judged : (i : ℕ) → i < k → IsDoneSlot g before (slice_index slots i)
+      → HasMatchAt matches (slice_index slots i) ⊎ HoldsOther g after (slice_index slots i) terms
   pub only : (found : Match) → Contains matches found → IsMatchAmong g after slots k terms found
   pub rise : MatchesRise 0 matches
 

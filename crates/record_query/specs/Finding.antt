@@ -2,13 +2,15 @@
 use Rattle.std.specs.Prelude.{◌≡◌, ◌≤◌, ◌+◌, ◌*◌, ◌⊎◌, ℕ, List, [], ◌∷◌, length, Contains, Result, Ok, Err, IsTrue, ⊤}
 use Rattle.std.specs.Global.{Vec}
 use Rattle.cell_types.specs.Image.{Image}
-use Rattle.cell_types.specs.Layout.{Layout}
+use Rattle.cell_types.specs.Layout.{Layout, list_at, pool_at}
 use Rattle.cell_types.specs.declared.refusal.Refusal.{Refusal}
 use Rattle.cell_types.specs.declared.refusal.Refusal.TheVariants.{DeviceFault, NoMemory, NotAVolume, NotFormatted, Tampered, WrongSize}
 use Rattle.commit_record.specs.Licences.{IsLicensed}
+use Rattle.volume_meaning.specs.Blocks.{PostingFields, Trail}
 use Rattle.volume_meaning.specs.Keeping.{Kept}
 use Rattle.volume_meaning.specs.Nearness.{IsCandidate, IsNear}
 use Rattle.volume_meaning.specs.Documents.{AreDocuments, Document, Stands, stored_bytes}
+use Rattle.volume_meaning.specs.Postings.{HasPostings, HasTag, IsWordPosting, list_of, tag_of}
 use Rattle.volume_meaning.specs.Slots.{cells_for}
 use Rattle.volume_meaning.specs.Volumes.{IsVolume}
 use Rattle.volume_meaning.specs.Words.{Matches, rule_of}
@@ -53,14 +55,51 @@ abbrev pub FindsAllOf : ℕ → Image → List (List ℕ) → List Match → Lis
 FindsAllOf cells image terms matches documents =
     (d : Document) → Contains documents d → HasTerms cells image d.body terms → HasMatch matches d.slot d.id d.body
 
+-- The list of the word leads to the slot: of some body that has the word's tag the postings exist, and the slot's in this
+-- list have trails. Whether such a document stands in the slot is not asked.
+pub record IsListed (cells : ℕ) (image : Image) (g : Layout) (word : List ℕ) (slot : ℕ) : Type 0 where
+  pub body : List ℕ
+  pub postings : HasPostings g body
+  pub tagged : HasTag g body (list_of g.lists word) (tag_of word)
+  pub trails : (p : PostingFields) → IsWordPosting g body slot (list_of g.lists word) p
+      → (at : ℕ) × Trail image (pool_at g) cells at p (list_at g (list_of g.lists word))
+
+-- the list of each of the terms leads to the slot, in the volume that the image holds
+pub record IsLedTo (cells : ℕ) (image : Image) (terms : List (List ℕ)) (slot : ℕ) : Type 0 where
+  pub layout : Layout
+  pub volume : IsVolume cells image layout
+  pub each : (word : List ℕ) → Contains terms word → IsListed cells image layout word slot
+
+-- one of the matches is of this slot
+pub record HasMatchAt (matches : List Match) (slot : ℕ) : Type 0 where
+  pub found : Match
+  pub among : Contains matches found
+  pub slot_is : found.slot ≡ slot
+
+-- the slot's document stands, and lacks one of the terms
+pub record StandsWithout (cells : ℕ) (image : Image) (terms : List (List ℕ)) (slot : ℕ) : Type 0 where
+  pub id : List ℕ
+  pub body : List ℕ
+  pub stands : Stands cells image slot id body
+  pub lacks : HasTerms cells image body terms → ⊥
+
+-- the slot has its match, or its document stands and lacks one of the terms: none is passed whose document is broken
+abbrev pub IsJudged : ℕ → Image → List (List ℕ) → List Match → ℕ → Type 0
+IsJudged cells image terms matches slot = HasMatchAt matches slot ⊎ StandsWithout cells image terms slot
+
 -- What was found: of each list of documents that was kept at entry those that have the terms; and where nobody else
--- wrote, of each that is kept at exit. Each match tells of a document that stands at exit; and slots rise.
+-- wrote, of each that is kept at exit. Each slot to which the lists of all terms led at entry is judged, and where nobody
+-- else wrote, each to which they lead at exit. Each match tells of a document that stands at exit; and slots rise.
 pub record Finds (terms : List (List ℕ)) (old new : DeviceState) (matches : List Match) : Type 0 where
   pub all : (documents : List Document) → Kept old.cells old.image documents
       → FindsAllOf old.cells old.image terms matches documents
   pub alone : IsStill old.foreign_writes new.foreign_writes
       → (documents : List Document) → Kept new.cells new.image documents
       → FindsAllOf new.cells new.image terms matches documents
+  pub judged : (slot : ℕ) → IsLedTo old.cells old.image terms slot
+      → IsJudged new.cells new.image terms matches slot
+  pub judged_alone : IsStill old.foreign_writes new.foreign_writes
+      → (slot : ℕ) → IsLedTo new.cells new.image terms slot → IsJudged new.cells new.image terms matches slot
   pub only : (found : Match) → Contains matches found → IsMatch new.cells new.image terms found
   pub rise : MatchesRise 0 matches
 

@@ -3,7 +3,7 @@ ghost use Rattle.std.specs.Prelude.{◌≡◌, ◌<◌, ◌≤◌, ℕ, List, If
 ghost use Rattle.volume_meaning.specs.Words.{rule_of};
 ghost use Rattle.worm_device.specs.Views.{Viewed, seen_directly};
 ghost use Rattle.zigzag_join.specs.Gathering.{GatheredRise};
-ghost use Rattle.record_query.specs.Among.{AmongEnds, LooksOnce, ReadsEach, added};
+ghost use Rattle.record_query.specs.Among.{AmongEnds, AreOfVolume, LooksOnce, ReadsEach, added};
 ghost use Rattle.record_query.specs.Finding.{Searches};
 ghost use Rattle.record_query.specs.Matching.{IsMatcherOf, KeepsTerms, SlotEnds};
 
@@ -57,6 +57,7 @@ fn find_among<D: Device>(
     matcher: &mut Matcher,
 ) -> Result<Vec<Match>, Refusal>
     requires rise { GatheredRise slots.now }
+    requires inside { AreOfVolume volume.now.geometry slots.now }
     requires size { volume.now.geometry.cells ≤ (D.state device.old).cells }
     ensures viewed { Viewed (seen_directly (D.state device.old) 0) (seen_directly (D.state device.new) 0) }
     ensures reads { ReadsEach volume.now.geometry slots.now (D.state device.old) (D.state device.new) }
@@ -82,6 +83,7 @@ fn match_on_device<D: Device>(
     matcher: &mut Matcher,
     row: &mut [u8; ROW_BYTES],
 ) -> Result<Option<Match>, Refusal>
+    requires slot { slot < volume.now.geometry.slots }
     requires size { volume.now.geometry.cells ≤ (D.state device.old).cells }
     ensures viewed { Viewed (seen_directly (D.state device.old) 0) (seen_directly (D.state device.new) 0) }
     ensures reads { LooksOnce volume.now.geometry slot (D.state device.old) (D.state device.new) }
@@ -90,10 +92,6 @@ fn match_on_device<D: Device>(
         → SlotEnds volume.now.geometry slot terms (seen_directly (D.state device.old) 0)
         (seen_directly (D.state device.new) 0) result }
 {
-    if slot >= volume.geometry.slots() {
-        // The lists answer slots of the volume alone, which their contract does not say.
-        return Ok(None);
-    }
     match_in(alloc, &mut Direct::new(device), volume, slot, matcher, row)
 }
 

@@ -3,12 +3,13 @@ use Rattle.std.proofs.Common.{◌≡◌, ◌<◌, ◌≤◌, ◌+◌, ◌*◌, �
 use Rattle.std.specs.Global.{Vec}
 use Rattle.std.specs.Prelude.{Contains, IsTrue}
 use Rattle.std.proofs.lemmas.List.Elements.{Contains-push_cases}
-use Rattle.cell_types.specs.Image.{Image}
-use Rattle.cell_types.specs.Layout.{Layout}
+use Rattle.cell_types.specs.Image.{Extends, Image}
+use Rattle.cell_types.specs.Layout.{Layout, list_at, pool_at}
 use Rattle.cell_types.specs.declared.geometry.TheConstants.{STAMPED_VERSION}
 use Rattle.cell_types.specs.declared.refusal.Evidence.{Evidence}
 use Rattle.cell_types.specs.declared.refusal.Refusal.{Refusal}
 use Rattle.cell_types.specs.declared.refusal.Refusal.TheVariants as refusals
+use Rattle.volume_meaning.specs.Blocks.{Trail}
 use Rattle.volume_meaning.specs.Keeping.{IsKept, Kept}
 use Rattle.volume_meaning.specs.Postings.{time_posting}
 use Rattle.volume_meaning.proofs.KeepingLaws.{kept_on}
@@ -16,6 +17,7 @@ use Rattle.volume_meaning.specs.Documents.{Document}
 use Rattle.volume_meaning.specs.Slots.{IsStampOf}
 use Rattle.volume_meaning.specs.Volumes.{IsVolume}
 use Rattle.volume_meaning.proofs.Extending.{holds_on, volume_on}
+use Rattle.volume_meaning.proofs.Trails.{trail_on}
 use Rattle.tamper_rules.specs.Settling.{Settled}
 use Rattle.tamper_rules.proofs.GivenUp.{one_layout}
 use Rattle.tamper_rules.proofs.Images.{same_image}
@@ -37,7 +39,7 @@ use Rattle.record_query.proofs.Searched.{comes_to_settled, reach_is, walked}
 use Rattle.time_index.specs.Asking.{AsksStamps}
 use Rattle.time_index.specs.Gathering.{GatherTimesEnds, GathersTimes, GathersOnDevice, SpanGathered}
 use Rattle.time_index.specs.Matching.{IsTimeMatchIn, WantsTimeMatch}
-use Rattle.time_index.specs.Spans.{FindsBetween, FindsKeptSpan, FindsSpan, HasTimeMatch, IsStampedSlot, IsTimeMatch, LieInLog, NamesTimeRule, ReadsBriefly, SearchesTimes, SpanEnds, WantsMatch, all_cells_of, searched, unstamped}
+use Rattle.time_index.specs.Spans.{FindsBetween, FindsKeptSpan, FindsSpan, HasTimeMatch, IsStampedSlot, IsTimeListed, IsTimeMatch, LieInLog, NamesTimeRule, ReadsBriefly, SearchesTimes, SpanEnds, TellsListed, WantsMatch, all_cells_of, searched, unstamped}
 use Rattle.time_index.specs.declared.found.TimeMatch.{TimeMatch}
 use Rattle.time_index.specs.declared.span.TheConstants.{SPAN_READS}
 use Rattle.time_index.proofs.Matched.{one_stamp}
@@ -101,6 +103,16 @@ module _ (from to : ℕ) (old new : DeviceState) where
     rule = tt;
     reads = tt;
   }
+
+-- where the time list leads it goes on leading
+time_listed_on : {cells : ℕ} {old new : Image} {n seconds : ℕ} → Extends old new → IsTimeListed cells old n seconds
+    → IsTimeListed cells new n seconds
+time_listed_on e led = record {
+  layout = led.layout;
+  volume = volume_on e led.volume;
+  at = led.at;
+  trail = trail_on e led.trail;
+}
 
 -- a slot of the volume has this stamp
 stamp_by : {cells : ℕ} {image : Image} {n seconds : ℕ} {g : Layout} → (is : IsStampedSlot cells image n seconds)
@@ -203,8 +215,23 @@ module _ (r : Ready) (from to : ℕ) (old settled new : DeviceState) (s : Settle
           kept_found d seconds (subst (λ (h : Layout). IsKept settled.cells settled.image h d) one (kept.each d among))
           stamp from_is to_is
 
+      -- each slot to which the time list leads with a stamp of the span
+      all_listed : TellsListed settled.cells settled.image from to matches
+      all_listed n seconds small led from_is to_is =
+          let one : led.layout ≡ g = one_layout {cells = settled.cells} {more = settled.cells} led.layout g led.volume
+          (is_ready w tells).volume in
+          gathered.all (tells_settled w tells) led.at n seconds small
+          (subst (λ (h : Layout). Trail settled.image (pool_at h) settled.cells led.at (time_posting n seconds)
+          (list_at h h.lists)) one led.trail) from_is (omega (arith, to_is))
+
       pub finds : FindsSpan from to old new matches
       finds = record {
+        listed = λ n seconds small led from_is to_is. all_listed n seconds small
+            (subst (λ (k : ℕ). IsTimeListed k settled.image n seconds) (sym s.called.cells)
+            (time_listed_on s.called.image led)) from_is to_is;
+        listed_alone = λ still n seconds small led from_is to_is. all_listed n seconds small
+            (subst (λ (i : Image). IsTimeListed settled.cells i n seconds) (same_since w still)
+            (subst (λ (k : ℕ). IsTimeListed k new.image n seconds) w.looked.cells led)) from_is to_is;
         all = λ documents kept d seconds among stamp from_is to_is.
             let by = stamp_by stamp (one_layout {cells = old.cells} {more = settled.cells} stamp.layout g
             (volume_on s.called.image stamp.volume) (is_ready w tells).volume) in

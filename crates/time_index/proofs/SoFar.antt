@@ -24,10 +24,10 @@ use Rattle.jump_index.proofs.LookingLater.{trail_then}
 use Rattle.jump_index.proofs.Telling.{told}
 use Rattle.posting_list.specs.Searches.{head_of}
 use Rattle.posting_list.specs.declared.reach.Reach.{Reach}
-use Rattle.time_index.specs.Gathering.{AreTimeMatches, GatherTimesEnds, GathersTimes, TellsSlot, IsBehind, IsLastMatch, IsSlotUpTo, SpanGathered, SpanSoFar, unanswered}
+use Rattle.time_index.specs.Gathering.{AreTimeMatches, GatherTimesEnds, GathersTimes, IsBehind, IsLastMatch, IsSlotUpTo, SpanGathered, SpanSoFar, unanswered}
 use Rattle.time_index.specs.Matching.{IsEarlier, IsMatchOf, IsTimeMatchIn, MatchTimeEnds, ReadsMatch, TimeFault, cells_of}
 use Rattle.time_index.specs.Postings.{IsTimed, NextPosting, slot_named}
-use Rattle.time_index.specs.Spans.{SlotsRise, all_cells_of}
+use Rattle.time_index.specs.Spans.{SlotsRise, TellsSlot, all_cells_of}
 use Rattle.time_index.specs.declared.found.TimeMatch.{TimeMatch}
 use Rattle.time_index.specs.declared.matching.Stamped.{Stamped}
 use Rattle.time_index.proofs.Parts.{of_lists, slot_of_time, time_later}

@@ -12,16 +12,9 @@ use Rattle.recovery_engine.specs.declared.settling.Ready.{Ready}
 use Rattle.record_query.specs.Reaching.{reach_of}
 use Rattle.time_index.specs.Matching.{IsTimeMatchIn, TimeRefuses, WantsTimeMatch}
 use Rattle.time_index.specs.Postings.{IsTimed}
-use Rattle.time_index.specs.Spans.{SlotsRise, all_cells_of}
+use Rattle.time_index.specs.Spans.{SlotsRise, TellsSlot, all_cells_of}
 use Rattle.time_index.specs.declared.found.TimeMatch.{TimeMatch}
 use Rattle.time_index.specs.declared.matching.Stamped.{Stamped}
-
--- one of the matches tells of this slot and this stamp
-pub record TellsSlot (matches : List TimeMatch) (n seconds : ℕ) : Type 0 where
-  pub found : TimeMatch
-  pub among : Contains matches found
-  pub slot_is : found.slot ≡ n
-  pub seconds_is : found.seconds ≡ seconds
 
 -- each time posting that had a trail at entry, with a stamp from one on and below another, has its match
 abbrev pub AreAnswered : Reach → ViewState → ℕ → ℕ → List TimeMatch → Type 0

@@ -1,13 +1,15 @@
 -- What it means that a volume is searched for the documents of a span of time.
-use Rattle.std.specs.Prelude.{◌≡◌, ◌<◌, ◌≤◌, ◌+◌, ◌*◌, ◌⊎◌, ℕ, List, [], ◌∷◌, length, Contains, Some, Result, Ok, Err, IsTrue, ⊤}
+use Rattle.std.specs.Prelude.{◌≡◌, ◌<◌, ◌≤◌, ◌+◌, ◌*◌, ◌^◌, ◌⊎◌, ℕ, List, [], ◌∷◌, length, Contains, Some, Result, Ok, Err, IsTrue, ⊤}
 use Rattle.std.specs.Global.{Vec}
 use Rattle.cell_types.specs.Image.{Image}
-use Rattle.cell_types.specs.Layout.{Layout}
+use Rattle.cell_types.specs.Layout.{Layout, list_at, pool_at}
 use Rattle.cell_types.specs.declared.refusal.Refusal.{Refusal}
 use Rattle.cell_types.specs.declared.refusal.Refusal.TheVariants.{DeviceFault, NoMemory, NoStamps, NotAVolume, NotFormatted, Tampered, WrongSize}
 use Rattle.commit_record.specs.Licences.{IsLicensed}
+use Rattle.volume_meaning.specs.Blocks.{Trail}
 use Rattle.volume_meaning.specs.Keeping.{Kept}
 use Rattle.volume_meaning.specs.Documents.{Document, Stands}
+use Rattle.volume_meaning.specs.Postings.{time_posting}
 use Rattle.volume_meaning.specs.Slots.{IsHorizon, IsStampOf}
 use Rattle.volume_meaning.specs.Volumes.{IsVolume}
 use Rattle.tamper_rules.specs.Settling.{Settled}
@@ -35,6 +37,27 @@ pub record HasTimeMatch (matches : List TimeMatch) (n : ℕ) (id body : List ℕ
   pub identifier_is : found.identifier ≡ id
   pub bytes_is : found.bytes ≡ length body
   pub seconds_is : found.seconds ≡ seconds
+
+-- one of the matches tells of this slot and this stamp
+pub record TellsSlot (matches : List TimeMatch) (n seconds : ℕ) : Type 0 where
+  pub found : TimeMatch
+  pub among : Contains matches found
+  pub slot_is : found.slot ≡ n
+  pub seconds_is : found.seconds ≡ seconds
+
+-- the volume's time list leads to the slot with this stamp: its time posting has a trail
+pub record IsTimeListed (cells : ℕ) (image : Image) (n seconds : ℕ) : Type 0 where
+  pub layout : Layout
+  pub volume : IsVolume cells image layout
+  pub at : ℕ
+  pub trail : Trail image (pool_at layout) cells at (time_posting n seconds) (list_at layout layout.lists)
+
+-- Each slot to which the time list leads with a stamp from one time to another has its match: none is passed whose
+-- document is broken. A time posting has the first 32 bits of a slot's number.
+abbrev pub TellsListed : ℕ → Image → ℕ → ℕ → List TimeMatch → Type 0
+TellsListed cells image from to matches =
+    (n seconds : ℕ) → n < 2 ^ 32 → IsTimeListed cells image n seconds → from ≤ seconds → seconds ≤ to
+    → TellsSlot matches n seconds
 
 -- the match tells of a document that stands, and of its stamp, which lies from one time to another
 pub record IsTimeMatch (cells : ℕ) (image : Image) (from to : ℕ) (found : TimeMatch) : Type 0 where
@@ -72,14 +95,18 @@ FindsSpanOf cells image from to matches documents =
     → seconds ≤ to → HasTimeMatch matches d.slot d.id d.body seconds
 
 -- What was found: of each list of documents that was kept at entry those whose stamps lie in the span; and where nobody
--- else wrote, of each that is kept at exit. Each match tells of a document that stands at exit with its stamp, in a slot
--- of the log; and slots rise.
+-- else wrote, of each that is kept at exit. Each slot to which the time list led at entry with a stamp of the span, and
+-- where nobody else wrote, each to which it leads at exit. Each match tells of a document that stands at exit with its
+-- stamp, in a slot of the log; and slots rise.
 pub record FindsSpan (from to : ℕ) (old new : DeviceState) (matches : List TimeMatch) : Type 0 where
   pub all : (documents : List Document) → Kept old.cells old.image documents
       → FindsSpanOf old.cells old.image from to matches documents
   pub alone : IsStill old.foreign_writes new.foreign_writes
       → (documents : List Document) → Kept new.cells new.image documents
       → FindsSpanOf new.cells new.image from to matches documents
+  pub listed : TellsListed old.cells old.image from to matches
+  pub listed_alone : IsStill old.foreign_writes new.foreign_writes
+      → TellsListed new.cells new.image from to matches
   pub only : (found : TimeMatch) → Contains matches found → IsTimeMatch new.cells new.image from to found
   pub log : LieInLog old new matches
   pub rise : SlotsRise 0 matches

@@ -34,10 +34,16 @@ pub record IsFirstBadWord (rule : WordRule) (asked : List (List ℕ)) (i : ℕ) 
   pub bad : HasOneTerm rule word → ⊥
   pub before : (j : ℕ) (other : List ℕ) → j + 1 < i → slice_get asked j ≡ Some other → HasOneTerm rule other
 
--- the terms are those of the words, and no more than these
+-- no term stands twice
+abbrev pub StandOnce : List (List ℕ) → Type 0
+StandOnce [] = ⊤
+StandOnce (term ∷ terms) = (Contains terms term → ⊥) × StandOnce terms
+
+-- the terms are those of the words, each once, and no more than these
 pub record AreTermsOf (rule : WordRule) (asked terms : List (List ℕ)) : Type 0 where
   pub all : (word : List ℕ) → Contains asked word → (term : List ℕ) × IsOneTerm rule word term × Contains terms term
   pub only : (term : List ℕ) → Contains terms term → (word : List ℕ) × Contains asked word × IsOneTerm rule word term
+  pub once : StandOnce terms
   pub few : length terms ≤ length asked
 
 -- how reading the terms of the words may end, and why

@@ -27,6 +27,7 @@ pub record GatherSoFar (old now : ListsState) (from : ℕ) (slots : List ℕ) : 
   pub all : (slot : ℕ) → AllOwe old slot → slot < from → IsAmongSlots slots slot
   pub below : (i : ℕ) → i < length slots → slice_index slots i < from
   pub vouched : (i : ℕ) → i < length slots → AllVouch now (slice_index slots i)
+  pub live : (i : ℕ) → i < length slots → now.live (slice_index slots i)
   pub rise : GatheredRise slots
   pub counted : IsStill old.view.base.foreign_writes now.view.base.foreign_writes → (q : ℕ) → q + 1 ≤ old.lists
       → (all : List ℕ) → HaveAllSlots old q 0 all → IsSummed old now from all
@@ -39,6 +40,7 @@ gather_none old = record {
   all = λ slot owe before. absurd (omega (arith, before));
   below = λ i less. absurd (omega (arith, less));
   vouched = λ i less. absurd (omega (arith, less));
+  live = λ i less. absurd (omega (arith, less));
   rise = λ i j less inside. absurd (omega (arith, inside));
   counted = λ still q less all have. record {
     next_asks = omega (arith, times_on old.lists (2 * at_least all 0) (2 * length all) (omega (arith, at_most all 0)));
@@ -177,6 +179,12 @@ module _ (old now new : ListsState) (from : ℕ) (slots : List ℕ) (so_far : Ga
         (λ (here : i ≡ length slots). subst (AllVouch new)
         (sym (ap (slice_index (slots ++ n ∷ [])) here ∙ at_end slots n)) ends.2)
         (last_or_before i (length slots) (omega (arith, less, length_push slots n)));
+    live = λ i less. ⊎_elim
+        (λ (before : i < length slots). subst new.live (sym (get_or_append_left slots (n ∷ []) 0 i before))
+        (kept.living _ (so_far.live i before)))
+        (λ (here : i ≡ length slots). subst new.live
+        (sym (ap (slice_index (slots ++ n ∷ [])) here ∙ at_end slots n)) ends.4)
+        (last_or_before i (length slots) (omega (arith, less, length_push slots n)));
     rise = λ i j less inside. ⊎_elim
         (λ (before : j < length slots).
         let first : i < length slots = omega (arith, less, before) in
@@ -207,5 +215,6 @@ module _ (old now new : ListsState) (from : ℕ) (slots : List ℕ) (so_far : Ga
         (λ (past : from ≤ slot). absurd (none slot (owe_on slot owe) past small))
         (cases_lt slot from);
     vouched = λ i less. vouch_on _ (so_far.vouched i less);
+    live = λ i less. kept.living _ (so_far.live i less);
     rise = so_far.rise;
   }

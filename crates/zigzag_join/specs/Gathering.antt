@@ -19,10 +19,11 @@ abbrev pub GatheredRise : List ℕ → Type 0
 GatheredRise slots = (i j : ℕ) → i < j → j < length slots → slice_index slots i < slice_index slots j
 
 -- The slots that lists have in common: each that at entry no list could pass is one of them; every list vouches for
--- each of them at exit; and they rise.
+-- each of them at exit; each is live; and they rise.
 pub record Gathers (old new : ListsState) (slots : List ℕ) : Type 0 where
   pub all : (slot : ℕ) → AllOwe old slot → slot < MAX_SLOTS → IsAmongSlots slots slot
   pub vouched : (i : ℕ) → i < length slots → AllVouch new (slice_index slots i)
+  pub live : (i : ℕ) → i < length slots → new.live (slice_index slots i)
   pub rise : GatheredRise slots
 
 -- how gathering them may end, and why

@@ -26,10 +26,11 @@ AllHaveEnds slot old new (Ok true) = AllVouch new slot
 AllHaveEnds slot old new (Ok false) = AllOwe old slot → ⊥
 AllHaveEnds slot old new (Err fault) = ListsFaultEnds old new fault
 
--- The next slot at or past one that all lists have: every list vouches for it at exit, and no slot before it was one
--- that at entry no list could pass. None comes only where there is no such slot at all.
+-- The next slot at or past one that all lists have: it is live, every list vouches for it at exit, and no slot before it
+-- was one that at entry no list could pass. None comes only where there is no such slot at all.
 abbrev pub JoinEnds : ℕ → ListsState → ListsState → Result (Option ℕ) Fault → Type 0
 JoinEnds from old new (Ok (Some n)) =
     (from ≤ n) × (n < MAX_SLOTS) × AllVouch new n × ((slot : ℕ) → AllOwe old slot → from ≤ slot → n ≤ slot)
+    × new.live n
 JoinEnds from old new (Ok None) = (slot : ℕ) → AllOwe old slot → from ≤ slot → slot < MAX_SLOTS → ⊥
 JoinEnds from old new (Err fault) = ListsFaultEnds old new fault

@@ -27,6 +27,8 @@ pub record ListsState : Type 1 where
   pub shows : Evidence → Type 0
   -- the list has some posting of the slot: its next slot is always one of these
   pub lands : ℕ → ℕ → Type 0
+  -- the slot was seen to be live: the next slot of each list is always one of these
+  pub live : ℕ → Type 0
   -- how often a list was asked for its next slot, and how often whether it has one
   pub next_asks : ℕ
   pub has_asks : ℕ
@@ -51,7 +53,7 @@ HasPaid reads next has s =
     CountsAsks s → s.view.base.reads + (s.next_reads * next + s.has_reads * has) ≤ reads + paid_reads s
 
 -- What every call keeps, and so every row of calls: the lists stay as many and what they are, the view is read alone,
--- and what a list must not pass, vouches for or may name once it does ever after. Counts of asks don't fall. paid says
+-- and what a list must not pass, vouches for or may name once it does ever after, and a live slot stays one. Counts of asks don't fall. paid says
 -- HasPaid of the counts of old, and of each earlier time on.
 pub record Keeps (old new : ListsState) : Type 0 where
   pub lists : new.lists ≡ old.lists
@@ -60,6 +62,7 @@ pub record Keeps (old new : ListsState) : Type 0 where
   pub owing : (which slot : ℕ) → old.owes which slot → new.owes which slot
   pub vouching : (which slot : ℕ) → old.vouches which slot → new.vouches which slot
   pub naming : (e : Evidence) → old.may_name e → new.may_name e
+  pub living : (slot : ℕ) → old.live slot → new.live slot
   pub landing : IsStill old.view.base.foreign_writes new.view.base.foreign_writes → (which slot : ℕ)
       → new.lands which slot → old.lands which slot
   pub next_reads : new.next_reads ≡ old.next_reads
@@ -89,6 +92,7 @@ AsksHas old new =
 abbrev pub ListNextEnds : ℕ → ℕ → ListsState → ListsState → Result (Option ℕ) Fault → Type 0
 ListNextEnds which from old new (Ok (Some n)) =
     (from ≤ n) × (n < MAX_SLOTS) × new.lands which n × ((slot : ℕ) → old.owes which slot → from ≤ slot → n ≤ slot)
+    × new.live n
 ListNextEnds which from old new (Ok None) = (slot : ℕ) → old.owes which slot → from ≤ slot → ⊥
 ListNextEnds which from old new (Err fault) = ListsFaultEnds old new fault
 

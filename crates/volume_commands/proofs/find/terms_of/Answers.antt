@@ -2,8 +2,9 @@
 use Rattle.std.proofs.Common.{◌≡◌, ◌+◌, ◌<◌, ℕ, Bool, List, Err, length, map, sym, ap, subst, ◌∙◌, arith, rules, tests}
 use Rattle.std.proofs.lemmas.Iterator.{YieldsList-from_slice, cases_from_all}
 use Rattle.std.proofs.lemmas.List.{length-map}
-use Rattle.std.proofs.lemmas.List.Elements.{Contains-from_at}
-use Rattle.std.specs.Bool.{MatchBool, ⊤}
+use Rattle.std.proofs.lemmas.List.Elements.{Contains-from_at, at_from_Contains}
+use Rattle.std.proofs.lemmas.List.Folds.{none_from_all_within}
+use Rattle.std.specs.Bool.{MatchBool}
 use Rattle.std.specs.List.{AllWithin, HoldsAt}
 use Rattle.std.specs.String.{string_bytes}
 use Rattle.word_reader.specs.Single.{SingleEnds}
@@ -16,7 +17,7 @@ use Rattle.volume_commands.proofs.find.terms_of.Goals as goal
 -- whether the term is none of these
 abbrev IsNew : Bool → List ℕ → List (List ℕ) → Type 0
 IsNew new term terms =
-    MatchBool new (AllWithin (λ (t : List ℕ). ⊤) terms 0 (length terms))
+    MatchBool new (AllWithin (λ (t : List ℕ). t ≡ term → ⊥) terms 0 (length terms))
     ((k : ℕ) × (k < length terms) × HoldsAt (λ (t : List ℕ). t ≡ term) terms k)
 
 -- a word that does not hold exactly one term
@@ -43,18 +44,20 @@ loop-word-preserved c =
     let is = subst (λ (w : List ℕ). IsOneTerm c.args.rule w term) c.as_bytes.ensures.value c.in-Ok.ensures in
     let so_far = c.loop-word.invariant.1 in
     let more = λ (ts : List (List ℕ)). TermsSoFar c.args.rule asked ts (c.loop-word.word-index + 1) in
+    let new : IsNew c.all.result term terms =
+    cases_from_all _ _ c.all.result (λ (t : List ℕ). t ≡ term → ⊥) (λ (t : List ℕ). t ≡ term) c.all.ensures.ran
+    (YieldsList-from_slice terms (c.iter.ensures.rest ∙ c.deref.ensures.value)) (λ x q k. search (rules, tests))
+    (λ x q k. search (rules, tests)) in
     elim c.if-all.branch [
       | then-all+in-Ok-push w ↦
           let items = ap (λ v. v.items) w.terms-is ∙ w.in-Ok-push.ensures.items in (
             omega (arith, c.loop-word.invariant.0),
             subst more (sym items)
-                (term_new so_far (string_bytes word) term at is),
+                (term_new so_far (string_bytes word) term at is
+                (λ among. none_from_all_within (λ (t : List ℕ). t ≡ term) terms
+                (subst (λ (b : Bool). IsNew b term terms) w.if-all.true new) (at_from_Contains terms term among))),
           )
       | else-all w ↦
-          let new : IsNew c.all.result term terms =
-          cases_from_all _ _ c.all.result (λ (t : List ℕ). ⊤) (λ (t : List ℕ). t ≡ term) c.all.ensures.ran
-          (YieldsList-from_slice terms (c.iter.ensures.rest ∙ c.deref.ensures.value)) (λ x q k. search (rules, tests))
-          (λ x q k. search (rules, tests)) in
           let there = subst (λ (b : Bool). IsNew b term terms) w.if-all.false new in (
             omega (arith, c.loop-word.invariant.0),
             subst more (sym (ap (λ v. v.items) w.terms-is))

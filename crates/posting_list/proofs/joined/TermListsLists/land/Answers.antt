@@ -3,6 +3,7 @@ use Rattle.std.proofs.Common.{◌%◌, arith, refl, rules}
 use Rattle.worm_device.proofs.Resting.{viewed_self}
 use Rattle.posting_list.proofs.Joining.{keeps_next, land_ends, none_owed}
 use Rattle.posting_list.proofs.Landing.{keep_each_on}
+use Rattle.posting_list.proofs.Owed.{owed_small}
 use Rattle.posting_list.proofs.joined.TermListsLists.land.Goals as goal
 
 -- the list can't be asked
@@ -10,6 +11,12 @@ pub returns-in_default-clause-ends : goal.returns-in_default-clause-ends
 returns-in_default-clause-ends g c = λ slot owed past.
     none_owed c.args.self.now.reach c.args.self.now.sought.now.terms.items c.args.which
     (g.V.View.seen c.args.self.now.view.now) c.in_default.ensures slot owed
+
+-- no slot is as great
+pub returns-then-from-ge-MAX_SLOTS-clause-ends : goal.returns-then-from-ge-MAX_SLOTS-clause-ends
+returns-then-from-ge-MAX_SLOTS-clause-ends g c = λ slot owes past.
+    let small = owed_small c.args.self.now.reach owes.term (g.V.View.seen c.args.self.now.view.now) slot owes.owed in
+    omega (arith, small, past, c.if-from-ge-MAX_SLOTS.true)
 
 pub returns-then-from-ge-MAX_SLOTS-clause-kept : goal.returns-then-from-ge-MAX_SLOTS-clause-kept
 returns-then-from-ge-MAX_SLOTS-clause-kept g c =
