@@ -1,0 +1,82 @@
+//! The bytes of documents.
+ghost use Rattle.std.specs.Prelude.{◌≡◌, ◌<◌, ◌≤◌, ◌+◌, IsTrue};
+ghost use Rattle.append_file.specs.Reading.{IsPosition, NextByteEnds, NextRowEnds};
+ghost use Rattle.document_store.specs.Looks.{BodyEnds, CheckEnds, ReadsOnce, ReadsTwice};
+ghost use Rattle.volume_meaning.specs.Slots.{IsDoneSlot};
+ghost use Rattle.volume_meaning.specs.Slots as slots;
+ghost use Rattle.worm_device.specs.Views.{Viewed};
+
+use append_file::{ContentFault, Position, ROW_BYTES, next_byte, next_row};
+use cell_types::{Fault, Volume};
+use document_store::{BodyFault, Stored, body_into, check};
+use host_ports::Sink;
+use worm_device::View;
+
+/// `next_byte`.
+pub fn next_byte_again<V: View>(
+    view: &mut V,
+    position: &mut Position,
+) -> Option<Result<u8, ContentFault>>
+    requires is { IsPosition position.old }
+    requires inside { position.old.start + slots.cells_for position.old.bytes ≤ (V.seen view.old).cells }
+    ensures is { IsPosition position.new }
+    ensures start { position.new.start ≡ position.old.start }
+    ensures bytes { position.new.bytes ≡ position.old.bytes }
+    ensures viewed { Viewed (V.seen view.old) (V.seen view.new) }
+    ensures reads { (V.seen view.new).base.reads + position.old.read
+        ≤ (V.seen view.old).base.reads + position.new.read }
+    ensures ends { NextByteEnds (V.seen view.old) (V.seen view.new) position.old position.new result }
+{
+    next_byte(view, position)
+}
+
+/// `next_row`.
+pub fn next_row_again<V: View>(
+    view: &mut V,
+    position: &mut Position,
+    into: &mut [u8; ROW_BYTES],
+) -> Result<usize, ContentFault>
+    requires is { IsPosition position.old }
+    requires inside { position.old.start + slots.cells_for position.old.bytes ≤ (V.seen view.old).cells }
+    ensures is { IsPosition position.new }
+    ensures start { position.new.start ≡ position.old.start }
+    ensures bytes { position.new.bytes ≡ position.old.bytes }
+    ensures viewed { Viewed (V.seen view.old) (V.seen view.new) }
+    ensures reads { (V.seen view.new).base.reads + position.old.read
+        ≤ (V.seen view.old).base.reads + position.new.read }
+    ensures ends { NextRowEnds (V.seen view.old) (V.seen view.new) position.old position.new into.new result }
+{
+    next_row(view, position, into)
+}
+
+/// `check`.
+pub fn check_again<V: View>(view: &mut V, volume: &Volume, slot: u32) -> Result<Stored, Fault>
+    requires slot { slot < volume.now.geometry.slots }
+    requires size { volume.now.geometry.cells ≤ (V.seen view.old).cells }
+    requires done { IsTrue (V.seen view.old).base.tells
+        → IsDoneSlot volume.now.geometry (V.seen view.old).image slot }
+    ensures viewed { Viewed (V.seen view.old) (V.seen view.new) }
+    ensures reads { ReadsOnce volume.now.geometry slot (V.seen view.old) (V.seen view.new) }
+    ensures ends { CheckEnds volume.now.geometry slot (V.seen view.old) (V.seen view.new) result }
+{
+    check(view, volume, slot)
+}
+
+/// `body_into`.
+pub fn body_into_again<V: View, K: Sink>(
+    view: &mut V,
+    volume: &Volume,
+    slot: u32,
+    sink: &mut K,
+) -> Result<u32, BodyFault>
+    requires slot { slot < volume.now.geometry.slots }
+    requires size { volume.now.geometry.cells ≤ (V.seen view.old).cells }
+    requires done { IsTrue (V.seen view.old).base.tells
+        → IsDoneSlot volume.now.geometry (V.seen view.old).image slot }
+    ensures viewed { Viewed (V.seen view.old) (V.seen view.new) }
+    ensures reads { ReadsTwice volume.now.geometry slot (V.seen view.old) (V.seen view.new) }
+    ensures ends { BodyEnds volume.now.geometry slot (V.seen view.old) (V.seen view.new) (K.state sink.old)
+        (K.state sink.new) result }
+{
+    body_into(view, volume, slot, sink)
+}

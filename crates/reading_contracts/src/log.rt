@@ -1,0 +1,48 @@
+//! Cell 0, the state of a slot and the end of the log.
+ghost use Rattle.std.specs.Prelude.{◌<◌, ◌≤◌, ◌+◌, IfOk};
+ghost use Rattle.worm_device.specs.Views.{Viewed};
+ghost use Rattle.commit_record.specs.LogEnds.{LogEndEnds};
+ghost use Rattle.commit_record.specs.Opening.{OpenEnds};
+ghost use Rattle.commit_record.specs.Partition.{HasRoom};
+ghost use Rattle.commit_record.specs.States.{StateEnds, stamp_cells};
+
+use cell_types::{Fault, Volume};
+use commit_record::{LogEnd, OpenRefusal, SlotState, end_of_log, open, slot_state};
+use worm_device::{Failed, View};
+
+/// `open`.
+pub fn open_again<V: View>(view: &mut V) -> Result<Volume, OpenRefusal>
+    requires { 0 < (V.seen view.old).cells }
+    ensures viewed { Viewed (V.seen view.old) (V.seen view.new) }
+    ensures reads { (V.seen view.new).base.reads ≤ (V.seen view.old).base.reads + 1 }
+    ensures ends { OpenEnds (V.seen view.old) (V.seen view.new) result }
+{
+    open(view)
+}
+
+/// `slot_state`.
+pub fn slot_state_again<V: View>(
+    view: &mut V,
+    volume: &Volume,
+    slot: u32,
+) -> Result<SlotState, Fault>
+    requires slot { slot < volume.now.geometry.slots }
+    requires size { volume.now.geometry.cells ≤ (V.seen view.old).cells }
+    ensures viewed { Viewed (V.seen view.old) (V.seen view.new) }
+    ensures reads { (V.seen view.new).base.reads ≤ (V.seen view.old).base.reads
+        + (3 + stamp_cells volume.now.geometry) }
+    ensures room { IfOk result (λ state. HasRoom state) }
+    ensures ends { StateEnds volume.now.geometry slot (V.seen view.old) (V.seen view.new) result }
+{
+    slot_state(view, volume, slot)
+}
+
+/// `end_of_log`.
+pub fn end_of_log_again<V: View>(view: &mut V, volume: &Volume) -> Result<LogEnd, Failed>
+    requires { volume.now.geometry.cells ≤ (V.seen view.old).cells }
+    ensures viewed { Viewed (V.seen view.old) (V.seen view.new) }
+    ensures reads { (V.seen view.new).base.reads ≤ (V.seen view.old).base.reads + 26 }
+    ensures ends { LogEndEnds volume.now.geometry (V.seen view.old) (V.seen view.new) result }
+{
+    end_of_log(view, volume)
+}

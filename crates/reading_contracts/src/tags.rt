@@ -1,0 +1,34 @@
+//! The postings of a document.
+ghost use Rattle.std.specs.Prelude.{◌<◌, ◌≤◌, IfErr, IfOk};
+ghost use Rattle.cell_types.specs.declared.geometry.TheConstants.{MAX_SLOTS};
+ghost use Rattle.term_tags.specs.Listing.{GivesListed, GivesNone, GivesPostings};
+
+use cell_types::Refusal;
+use std::alloc::Global;
+use term_tags::{ListedPosting, Posting, document_postings, postings};
+use word_reader::Term;
+
+/// `postings`.
+pub fn postings_again(alloc: Global, terms: &[Term], lists: u16) -> Result<Vec<Posting>, Refusal>
+    requires { 1 ≤ lists }
+    ensures ok { IfOk result (λ rows. GivesPostings lists terms.now rows.items) }
+    ensures err { IfErr result (GivesNone lists terms.now) }
+{
+    postings(alloc, terms, lists)
+}
+
+/// `document_postings`.
+pub fn document_postings_again(
+    alloc: Global,
+    terms: &[Term],
+    lists: u16,
+    slot: u32,
+    stamp: Option<u32>,
+) -> Result<Vec<ListedPosting>, Refusal>
+    requires lists { 1 ≤ lists }
+    requires slot { slot < MAX_SLOTS }
+    ensures ok { IfOk result (λ rows. GivesListed lists slot stamp terms.now rows.items) }
+    ensures err { IfErr result (GivesNone lists terms.now) }
+{
+    document_postings(alloc, terms, lists, slot, stamp)
+}
