@@ -1,0 +1,65 @@
+//! The blocks of lists, their entries and trails.
+ghost use Rattle.std.specs.Prelude.{◌≡◌, IfNone, IfOk, IfSome, Some};
+ghost use Rattle.list_audit.specs.Blocks.{AreListBlocks};
+ghost use Rattle.log_audit.specs.Findings.{AreMetBelow, FindsBroken};
+ghost use Rattle.log_audit.specs.Kept.{image_of_kept};
+ghost use Rattle.log_audit.specs.Logs.{IsLog};
+ghost use Rattle.tamper_rules.specs.Rules.{Entries, Trails};
+ghost use Rattle.volume_meaning.specs.Blocks.{PostingFields, posting_record};
+ghost use Rattle.volume_meaning.specs.Volumes.{Holds, IsVolume};
+
+use cell_types::{Evidence, Geometry, NoMemory};
+use host_ports::Meter;
+use list_audit::{
+    HeldPosting, ListBlock, blocks_of, first_broken_entry, first_broken_trail, posting_at,
+};
+use log_audit::{KeptCells, Log};
+use std::alloc::Global;
+
+/// `blocks_of`.
+pub fn blocks_of_again(
+    alloc: Global,
+    kept: &KeptCells,
+    geometry: &Geometry,
+) -> Result<Vec<ListBlock>, NoMemory>
+    ensures { IfOk result (λ blocks. AreListBlocks geometry.now (image_of_kept kept.now) blocks.items) }
+{
+    blocks_of(alloc, kept, geometry)
+}
+
+/// `first_broken_entry`.
+pub fn broken_entry_again(
+    kept: &KeptCells,
+    geometry: &Geometry,
+    blocks: &[ListBlock],
+) -> Option<Evidence>
+    requires { AreListBlocks geometry.now (image_of_kept kept.now) blocks.now }
+    ensures { FindsBroken geometry.now (image_of_kept kept.now) Entries result }
+{
+    first_broken_entry(kept, geometry, blocks)
+}
+
+/// `posting_at`.
+pub fn posting_at_again(kept: &KeptCells, at: u32) -> Option<HeldPosting>
+    ensures some { IfSome result (λ p. Holds (image_of_kept kept.now) at (posting_record p)) }
+    ensures none { IfNone result ((p : PostingFields) → Holds (image_of_kept kept.now) at (posting_record p) → ⊥) }
+    ensures one { (p : PostingFields) → Holds (image_of_kept kept.now) at (posting_record p) → result ≡ Some p }
+{
+    posting_at(kept, at)
+}
+
+/// `first_broken_trail`.
+pub fn broken_trail_again<M: Meter>(
+    alloc: Global,
+    kept: &KeptCells,
+    geometry: &Geometry,
+    log: &Log,
+    meter: &mut M,
+) -> Result<Option<Evidence>, NoMemory>
+    requires volume { IsVolume geometry.now.cells (image_of_kept kept.now) geometry.now }
+    requires log { IsLog geometry.now (image_of_kept kept.now) log.now }
+    requires met { AreMetBelow geometry.now (image_of_kept kept.now) 13 }
+    ensures { IfOk result (λ found. FindsBroken geometry.now (image_of_kept kept.now) Trails found) }
+{
+    first_broken_trail(alloc, kept, geometry, log, meter)
+}
