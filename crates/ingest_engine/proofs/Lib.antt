@@ -10,3 +10,4 @@ pub mod Suited
 pub mod Trails
 pub mod UnusedSlots
 pub mod Walked
+pub mod OneWritten
