@@ -1,6 +1,9 @@
 -- The cell that was read already, and the looks at the others, as one look.
 use Rattle.cell_types.proofs.Passed.{handed}
-use Rattle.cell_types.specs.declared.refusal.Fault.TheVariants.{Tampered}
+use Rattle.std.proofs.Common.{◌∙◌, refl, subst, sym}
+use Rattle.std.specs.Prelude.{IsSome}
+use Rattle.cell_types.specs.declared.refusal.Fault.TheVariants.{Failed, Tampered}
+use Rattle.worm_device.proofs.Counting.{rose_from}
 use Rattle.worm_device.proofs.Resting.{viewed_then}
 use Rattle.commit_record.proofs.LooksAsOne.{look_at, looks_faults, looks_seen, room, seen_before, state_seen, tampered_seen}
 use Rattle.commit_record.proofs.used_slot.slot_state_of.Goals as goal
@@ -8,6 +11,10 @@ use Rattle.commit_record.proofs.used_slot.slot_state_of.Goals as goal
 -- the cells are a state
 pub returns-clause-room : goal.returns-clause-room
 returns-clause-room g c = room _ c.in_ok-state_of_cells.field-0 c.in_ok-state_of_cells.ensures.ends.0
+
+pub returns-clause-used : goal.returns-clause-used
+returns-clause-used g c =
+    c.in_ok-state_of_cells.ensures.used (subst IsSome (sym c.found_there-found.ensures.cell) refl)
 
 pub returns-clause-ends : goal.returns-clause-ends
 returns-clause-ends g c =
@@ -33,9 +40,30 @@ pub returns-clause-viewed : goal.returns-clause-viewed
 returns-clause-viewed g c =
     viewed_then c.in_ok-outcome.ensures.viewed (viewed_then c.in_ok-stamp.ensures.viewed c.in_ok-done.ensures.viewed)
 
+pub returns-in_err-outcome-clause-viewed : goal.returns-in_err-outcome-clause-viewed
+returns-in_err-outcome-clause-viewed g c = c.in_err-outcome.ensures.viewed
+
+pub returns-in_err-stamp-clause-viewed : goal.returns-in_err-stamp-clause-viewed
+returns-in_err-stamp-clause-viewed g c = viewed_then c.in_ok-outcome.ensures.viewed c.in_err-stamp.ensures.viewed
+
 pub returns-in_err-done-clause-viewed : goal.returns-in_err-done-clause-viewed
 returns-in_err-done-clause-viewed g c =
     viewed_then c.in_ok-outcome.ensures.viewed (viewed_then c.in_ok-stamp.ensures.viewed c.in_err-done.ensures.viewed)
+
+-- or one of them fails
+pub returns-in_err-outcome-clause-ends : goal.returns-in_err-outcome-clause-ends
+returns-in_err-outcome-clause-ends g c =
+    rw (handed c.from_residual.result Failed c.from_residual.ensures.1) c.in_err-outcome.ensures.ends
+
+pub returns-in_err-stamp-clause-ends : goal.returns-in_err-stamp-clause-ends
+returns-in_err-stamp-clause-ends g c =
+    rw (handed c.from_residual-in_err-stamp.result Failed c.from_residual-in_err-stamp.ensures.1)
+    (rose_from _ _ _ c.in_ok-outcome.ensures.ends.1 c.in_err-stamp.ensures.ends)
+
+pub returns-in_err-done-clause-ends : goal.returns-in_err-done-clause-ends
+returns-in_err-done-clause-ends g c =
+    rw (handed c.from_residual-in_err-done.result Failed c.from_residual-in_err-done.ensures.1)
+    (rose_from _ _ _ (c.in_ok-stamp.ensures.ends.0 ∙ c.in_ok-outcome.ensures.ends.1) c.in_err-done.ensures.ends)
 
 -- or one of them is out of place
 pub returns-in_err-state_of_cells-clause-viewed : goal.returns-in_err-state_of_cells-clause-viewed
