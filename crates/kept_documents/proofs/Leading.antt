@@ -321,7 +321,7 @@ module _ (pool block low bound : ℕ) (p : PostingFields) (old mid : ViewState) 
       }
 
 -- a trail begins in a block that has a key
-trail_has_key : {image : Image} {from to at : ℕ} {p : PostingFields} {block : ℕ} → Trail image from to at p block
+pub trail_has_key : {image : Image} {from to at : ℕ} {p : PostingFields} {block : ℕ} → Trail image from to at p block
     → HasKeyIn image block 0 (2 ^ 32)
 trail_has_key (here block place is below front) = record {
   place = place;

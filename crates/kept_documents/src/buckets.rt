@@ -10,14 +10,14 @@ use document_store::{part_has_identifier, slot_part};
 use worm_device::{Failed, View};
 
 /// Whether the bucket has the first seven bytes of the digest.
-pub(crate) fn has_fingerprint(bucket: &HeldBucket, digest: &[u8; 32]) -> bool
+pub fn has_fingerprint(bucket: &HeldBucket, digest: &[u8; 32]) -> bool
     ensures { HasFingerprint bucket.now digest.now result }
 {
     bucket.fingerprint[..] == digest[..7]
 }
 
 /// Whether the bucket is the slot's own.
-pub(crate) fn is_own(bucket: &HeldBucket, slot: u32, digest: &[u8; 32]) -> bool
+pub fn is_own(bucket: &HeldBucket, slot: u32, digest: &[u8; 32]) -> bool
     ensures { IsOwnBucket bucket.now slot digest.now result }
 {
     if bucket.slot != slot {

@@ -35,8 +35,11 @@ mod stamps;
 mod trails;
 mod wanted;
 
+pub use buckets::{has_fingerprint, is_own};
 pub use fault::AskFault;
 pub use hash_trails::has_hash_trail;
 pub use kept::is_kept;
+pub use node_cells::{HeldBucket, bucket_at, child_at};
+pub use stamps::{SlotStamp, slot_stamp};
 pub use trails::has_trail;
 pub use wanted::Wanted;

@@ -13,7 +13,7 @@ pub struct HeldBucket {
 }
 
 /// The bucket in a cell, `None` where it holds none.
-pub(crate) fn bucket_at<V: View>(view: &mut V, at: u32) -> Result<Option<HeldBucket>, Failed>
+pub fn bucket_at<V: View>(view: &mut V, at: u32) -> Result<Option<HeldBucket>, Failed>
     requires { at < (V.seen view.old).cells }
     ensures { AsksBucketCell at (V.seen view.old) (V.seen view.new) result }
 {
@@ -26,7 +26,7 @@ pub(crate) fn bucket_at<V: View>(view: &mut V, at: u32) -> Result<Option<HeldBuc
 }
 
 /// Where the child cell in a cell leads, `None` where it holds none.
-pub(crate) fn child_at<V: View>(view: &mut V, at: u32) -> Result<Option<u32>, Failed>
+pub fn child_at<V: View>(view: &mut V, at: u32) -> Result<Option<u32>, Failed>
     requires { at < (V.seen view.old).cells }
     ensures { AsksChildCell at (V.seen view.old) (V.seen view.new) result }
 {

@@ -14,7 +14,7 @@ pub struct SlotStamp {
 }
 
 /// The stamp of a slot, `None` where the volume's documents are stamped and the slot has no stamp.
-pub(crate) fn slot_stamp<V: View>(
+pub fn slot_stamp<V: View>(
     view: &mut V,
     volume: &Volume,
     slot: u32,

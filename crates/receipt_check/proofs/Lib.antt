@@ -1,9 +1,8 @@
 pub mod Accepting
 pub mod Comparing
+pub mod KeptByList
 pub mod Later
 pub mod Made
 pub mod MakingAccepted
 pub mod PathTrails
-pub mod Recorded
 pub mod SlotReceipts
-pub mod Unkept

@@ -3,10 +3,12 @@ use Rattle.std.proofs.Common.{◌≡◌, ◌<◌, ℕ, List, Some, Result, Ok, E
 use Rattle.std.specs.Prelude.{IsTrue, [], ◌∷◌}
 use Rattle.cell_types.specs.Image.{Extends}
 use Rattle.cell_types.specs.Layout.{Layout, done_at, list_at, pool_at}
+use Rattle.cell_types.specs.declared.record_cell.RecordCell.TheVariants.{Done}
 use Rattle.cell_types.specs.declared.refusal.Evidence.{Evidence}
 use Rattle.cell_types.specs.declared.refusal.Refusal.{Refusal}
 use Rattle.cell_types.specs.declared.refusal.Refusal.TheVariants.{Absent, DeviceFault, NoMemory, NotAVolume, NotFormatted, ReceiptTooLong, SinkFault, Tampered, WrongSize}
 use Rattle.volume_meaning.specs.Documents.{IsIdentifier, Stands}
+use Rattle.volume_meaning.specs.Volumes.{Holds}
 use Rattle.volume_meaning.proofs.OneDocument.{one_document}
 use Rattle.volume_meaning.specs.Blocks.{Trail}
 use Rattle.volume_meaning.specs.Keeping.{IsKept, Kept}
@@ -20,7 +22,6 @@ use Rattle.worm_device.specs.State.{DeviceState}
 use Rattle.worm_device.specs.Views.{Viewed, seen_directly}
 use Rattle.worm_device.proofs.Counting.{still_second}
 use Rattle.worm_device.proofs.Elapsing.{called_then}
-use Rattle.worm_device.proofs.Resting.{viewed_then}
 use Rattle.commit_record.specs.Licences.{IsLicensed}
 use Rattle.record_query.specs.LookingUp.{IsFirstOfPath, IsLookUpRule, IsLookedUp, LookUpEnds, LooksUp, NamesLookUpRule}
 use Rattle.record_query.specs.declared.found.Found.{Found}
@@ -30,7 +31,7 @@ use Rattle.receipt_text.specs.Listed.{listed_image}
 use Rattle.receipt_text.specs.declared.receipt.Receipt.{Receipt}
 use Rattle.receipt_check.specs.Judging.{IsSlotReceipt, LimitEnds}
 use Rattle.receipt_check.specs.Making.{IsReceiptOf, IsUnkept, MakeEnds, MakesReceipt, NamesMakingRule}
-use Rattle.receipt_check.specs.Naming.{NameEnds, NamesUnkept}
+use Rattle.receipt_check.specs.Naming.{NamesUnkept}
 use Rattle.receipt_check.specs.Discard.{discard}
 use Rattle.receipt_check.proofs.Later.{comes_later, comes_to, kept_before, looked_up_later}
 use Rattle.receipt_check.proofs.PathTrails.{first_trail}
@@ -146,6 +147,7 @@ module _ (id : List ℕ) (found : Found) (old mid new : DeviceState) (looks : Lo
           (subst (λ (b : List ℕ). IsLookedUp id b found.slot old new) (same_body tells) (looked tells));
       shows = g.shows;
       stand = stand;
+      needed = λ tells. g.needed (told_mid tells);
     }
 
     pub limited : IsIdentifier id → (result : Result Receipt Refusal) → LimitEnds r result → MakesReceipt id old new result
@@ -163,8 +165,7 @@ module _ (id : List ℕ) (found : Found) (old mid new : DeviceState) (looks : Lo
     limited is (Err refusal) ends = absurd ends
 
 -- slot n was found, and is not kept
-module _ (id : List ℕ) (found : Found) (old mid asked new : DeviceState)
-    (looks : LooksUp id old mid discard discard (Ok found))
+module _ (id : List ℕ) (found : Found) (old mid new : DeviceState) (looks : LooksUp id old mid discard discard (Ok found))
     (viewed : Viewed (seen_directly mid 0) (seen_directly new 0)) where
   abbrev n : ℕ
   n = found.slot
@@ -221,27 +222,28 @@ module _ (id : List ℕ) (found : Found) (old mid asked new : DeviceState)
         };
       }
 
-  name : (refusal : Refusal) → (IsTrue old.tells → KeepsNone (seen_directly mid 0) n id) → NameEnds n asked new refusal
-      → Viewed (seen_directly mid 0) (seen_directly asked 0) → MakesReceipt id old new (Err refusal)
-  name (Tampered e) none ends before = come id found old mid new looks viewed (Err (Tampered e))
+  -- the done cell that says so stands
+  done_there : (tells : IsTrue old.tells) → Holds new.image (done_at n) (Done n)
+  done_there tells = (first tells).first.stands.done.done
+
+  name : (refusal : Refusal) → (IsTrue old.tells → KeepsNone (seen_directly mid 0) n id) → NamesUnkept n refusal
+      → MakesReceipt id old new (Err refusal)
+  name (Tampered e) none names = come id found old mid new looks viewed (Err (Tampered e))
       (λ tells. (
-        licensed e ends.0 ends.1
-            (ends.2 (subst IsTrue (sym (called_then looks.called before.called).tells) tells)) (none tells) tells,
-        λ _. unkept e.cell ends.1 (none tells) tells,
-      )) (λ tells. inr ends.0)
-  name Absent none ends before = come id found old mid new looks viewed (Err Absent) (λ tells.
-      let done = (looks.ends.first tells).first.stands.done.done in
-      absurd (ends (subst IsTrue (sym (called_then looks.called before.called).tells) tells)
-      (record { found = done.cell; stands = before.called.image.keeps _ done.cell done.stands }))) tt
-  name DeviceFault none ends before = come id found old mid new looks viewed (Err DeviceFault)
-      (omega (arith, looks.called.faults, before.called.faults, ends)) tt
-  name refusal none ends before = absurd ends
+        licensed e names.0 names.1
+            ((done_there tells).stands ∙ ap (λ (c : List ℕ). Some c) ((done_there tells).is.same ∙ sym names.2))
+            (none tells) tells,
+        λ _. unkept e.cell names.1 (none tells) tells,
+      )) (λ tells. inr names.0)
+  name Absent none late = come id found old mid new looks viewed (Err Absent)
+      (λ tells. absurd (omega (arith, late, (done_there tells).is.well_formed))) tt
+  name refusal none names = absurd names
 
 -- slot n was found, and is not kept
-pub named : (id : List ℕ) (found : Found) (old mid asked new : DeviceState)
-    → LooksUp id old mid discard discard (Ok found) → Viewed (seen_directly mid 0) (seen_directly asked 0)
+pub named : (id : List ℕ) (found : Found) (old mid new : DeviceState)
+    → LooksUp id old mid discard discard (Ok found) → Viewed (seen_directly mid 0) (seen_directly new 0)
     → (IsTrue mid.tells → KeepsNone (seen_directly mid 0) found.slot id) → (refusal : Refusal)
-    → NamesUnkept found.slot asked new refusal → MakesReceipt id old new (Err refusal)
-named id found old mid asked new looks before none refusal names =
-    name id found old mid asked new looks (viewed_then before names.viewed) refusal
-    (λ tells. none (subst IsTrue (sym looks.called.tells) tells)) names.ends before
+    → NamesUnkept found.slot refusal → MakesReceipt id old new (Err refusal)
+named id found old mid new looks viewed none refusal names =
+    name id found old mid new looks viewed refusal
+    (λ tells. none (subst IsTrue (sym looks.called.tells) tells)) names

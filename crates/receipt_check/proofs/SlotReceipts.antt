@@ -9,17 +9,21 @@ use Rattle.std.proofs.lemmas.Option.{none-some}
 use Rattle.cell_types.specs.Image.{Extends}
 use Rattle.volume_meaning.specs.Keeping.{Kept}
 use Rattle.volume_meaning.proofs.KeepingLaws.{kept_on}
-use Rattle.worm_device.specs.State.{DeviceState}
+use Rattle.worm_device.specs.State.{DeviceState, IsDevice}
 use Rattle.worm_device.specs.Views.{seen_directly}
 use Rattle.worm_device.proofs.Resting.{rests_of}
 use Rattle.kept_documents.specs.Kept.{AsksKept, document_of}
-use Rattle.kept_documents.specs.declared.fault.AskFault.{AskFault}
 use Rattle.receipt_text.specs.Listed.{AreListed, AreListedFrom, listed_image}
 use Rattle.receipt_text.specs.declared.receipt.Receipt.{Receipt}
 use Rattle.receipt_check.specs.Checks.{ShowsDocument}
 use Rattle.receipt_check.specs.Viewing.{listed_view}
 use Rattle.receipt_check.specs.Judging.{IsSlotReceipt}
-use Rattle.receipt_check.specs.Recording.{ListsKept}
+use Rattle.receipt_check.specs.Listing.{AreShown}
+use Rattle.receipt_check.proofs.KeptByList.{keeps_alone, stands}
+use Rattle.receipt_cells.specs.Needed.{ListsJust, RestsOn}
+use Rattle.receipt_cells.specs.Whole.{IsKeptListed, ListsKept}
+use Rattle.tamper_rules.proofs.DocumentLists.{the_one}
+use Rattle.volume_meaning.proofs.OneDocument.{one_document}
 
 -- a listed cell is at or past the first address
 listed_from : (size from : ℕ) (cells : List (ℕ × List ℕ)) (at : ℕ) (value : List ℕ) → AreListedFrom size from cells
@@ -99,25 +103,65 @@ module _ (r : Receipt) (cells : ℕ) (shown : List (ℕ × List ℕ)) (left : �
       → (body : List ℕ) → ShowsDocument cells r body → ⊥
   judged_none asked body shows = asked.ends refl body shows
 
-module _ (n : ℕ) (id : List ℕ) (old new : DeviceState) (listed : List (ℕ × List ℕ)) (answer : Result (Option ℕ) AskFault)
-    (lists : ListsKept n id (seen_directly old 0) (seen_directly new 0) listed answer) where
-  -- the listed cells are cells of the device
-  pub listed_for : AreListed (2 ^ 32) listed → AreListed new.cells listed
-  listed_for are = listed_on (2 ^ 32) new.cells 0 listed are (λ at value there. (lists.read at value there).0)
+-- listed cells of the device are listed for it
+pub listed_for : (size : ℕ) (cells : List (ℕ × List ℕ)) → AreListed (2 ^ 32) cells → AreShown size cells
+    → AreListed size cells
+listed_for size cells are shown = listed_on (2 ^ 32) size 0 cells are (λ at value there. (shown.each at value there).0)
 
-  -- and with a document that they keep they are a receipt
-  pub slot_receipt : (r : Receipt) (cells : ℕ) → r.slot ≡ n → r.identifier ≡ id → r.cells ≡ listed
-      → AreListed (2 ^ 32) listed → cells ≡ old.cells → (body : List ℕ) × ShowsDocument cells r body
-      → IsSlotReceipt n id old new r
-  slot_receipt r cells slot identifier same are size shows = record {
+module _ (n bytes : ℕ) (id : List ℕ) (old new : DeviceState) (listed : List (ℕ × List ℕ))
+    (lists : ListsKept n id (seen_directly old 0) (seen_directly new 0) [] listed (Ok (Some bytes))) (r : Receipt)
+    (slot : r.slot ≡ n) (identifier : r.identifier ≡ id) (same : r.cells ≡ listed) where
+  kept_listed : IsTrue old.tells → IsKeptListed (seen_directly new 0) r.slot r.identifier bytes [] r.cells
+  kept_listed tells =
+      subst (λ (l : List (ℕ × List ℕ)). IsKeptListed (seen_directly new 0) r.slot r.identifier bytes [] l) (sym same)
+      (subst (λ (i : List ℕ). IsKeptListed (seen_directly new 0) r.slot i bytes [] listed) (sym identifier)
+      (subst (λ (m : ℕ). IsKeptListed (seen_directly new 0) m id bytes [] listed) (sym slot) (lists.ends tells)))
+
+  -- a device that tells has no listed cell past its last one
+  pub none_beyond : (at : ℕ) (value : List ℕ) → IsDevice new → IsTrue old.tells → listed_image listed at ≡ Some value
+      → old.cells ≤ at → ⊥
+  none_beyond at value is tells there past =
+      let stand = (stands (seen_directly new 0) n bytes id listed (lists.ends tells)).keeps at value there in
+      omega (arith, past, (is.inside at value stand).0, lists.viewed.called.cells)
+
+  -- and there the list keeps the document
+  pub shown_after_all : (cells : ℕ) → cells ≡ old.cells → IsTrue old.tells
+      → ((body : List ℕ) → ShowsDocument cells r body → ⊥) → ⊥
+  shown_after_all cells size tells never =
+      let h = kept_listed tells in
+      never h.body (subst (λ (c : ℕ). ShowsDocument c r h.body) (lists.viewed.called.cells ∙ sym size)
+      (keeps_alone (seen_directly new 0) r.slot bytes r.identifier r.cells h))
+
+  -- with a document that they keep the listed cells are a receipt
+  pub slot_receipt : (cells : ℕ) → AreListed (2 ^ 32) listed → cells ≡ old.cells → AreShown cells listed
+      → (body : List ℕ) × ShowsDocument cells r body → IsSlotReceipt n id old new r
+  slot_receipt cells are size shown shows = record {
     slot = slot;
     identifier = identifier;
-    listed = subst (AreListed new.cells) (sym same) (listed_for are);
+    listed = subst (AreListed new.cells) (sym same) (subst (λ (c : ℕ). AreListed c listed)
+        (size ∙ sym lists.viewed.called.cells) (listed_for cells listed are shown));
     body = shows.0;
-    shows = subst (λ (c : ℕ). ShowsDocument c r shows.0) (size ∙ sym lists.asks.viewed.called.cells) shows.1;
-    stand = λ tells. record {
-      keeps = λ at value there.
-          (lists.read at value (subst (λ (l : List (ℕ × List ℕ)). listed_image l at ≡ Some value) same there)).1
-          (subst IsTrue (sym lists.asks.viewed.called.tells) tells);
-    };
+    shows = here;
+    stand = stand;
+    needed = λ tells.
+        let h = kept_listed tells in
+        record {
+          layout = h.layout;
+          volume = h.volume;
+          just = subst (λ (b : List ℕ). ListsJust (RestsOn new.cells new.image h.layout
+              (document_of r.slot r.identifier b)) new.image [] r.cells) (one_body tells h) h.just;
+        };
   }
+    where
+      here : ShowsDocument new.cells r shows.0
+      here = subst (λ (c : ℕ). ShowsDocument c r shows.0) (size ∙ sym lists.viewed.called.cells) shows.1
+
+      stand : IsTrue old.tells → Extends (listed_image r.cells) new.image
+      stand tells = stands (seen_directly new 0) r.slot bytes r.identifier r.cells (kept_listed tells)
+
+      one_body : (tells : IsTrue old.tells) (h : IsKeptListed (seen_directly new 0) r.slot r.identifier bytes [] r.cells)
+          → h.body ≡ shows.0
+      one_body tells h =
+          let there = ((kept_on (stand tells) here).each (document_of r.slot r.identifier shows.0)
+          (the_one (document_of r.slot r.identifier shows.0))).stands in
+          (one_document new.cells new.image r.slot r.identifier h.body r.identifier shows.0 h.kept.stands there).1

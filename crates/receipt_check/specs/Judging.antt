@@ -7,13 +7,14 @@ use Rattle.cell_types.specs.declared.refusal.Refusal.TheVariants.{ReceiptTooLong
 use Rattle.worm_device.specs.Counts.{Rose}
 use Rattle.worm_device.specs.State.{DeviceState}
 use Rattle.worm_device.specs.Views.{Viewed, seen_directly}
-use Rattle.kept_documents.specs.Kept.{KeepsNone}
+use Rattle.kept_documents.specs.Kept.{KeepsNone, document_of}
 use Rattle.kept_documents.specs.declared.fault.AskFault.{AskFault}
 use Rattle.kept_documents.specs.declared.fault.AskFault.TheVariants as asks
 use Rattle.receipt_text.specs.Listed.{AreListed, listed_image}
 use Rattle.receipt_text.specs.declared.receipt.Receipt.{Receipt}
 use Rattle.receipt_text.specs.declared.receipt.TheConstants.{MAX_RECEIPT_CELLS}
 use Rattle.receipt_check.specs.Checks.{ShowsDocument}
+use Rattle.receipt_check.specs.Needing.{ListsNeeded}
 
 -- yes: they keep a document with some body; no: with none
 abbrev pub JudgesReceipt : ℕ → Receipt → Result Bool NoMemory → Type 0
@@ -21,7 +22,8 @@ JudgesReceipt cells r (Ok true) = (body : List ℕ) × ShowsDocument cells r bod
 JudgesReceipt cells r (Ok false) = (body : List ℕ) → ShowsDocument cells r body → ⊥
 JudgesReceipt cells r (Err failed) = ⊤
 
--- The receipt is of this slot and this identifier. Its cells keep a document, and stand.
+-- The receipt is of this slot and this identifier. Its cells keep a document, and stand; and they are just those that are
+-- needed.
 pub record IsSlotReceipt (n : ℕ) (id : List ℕ) (old new : DeviceState) (r : Receipt) : Type 0 where
   pub slot : r.slot ≡ n
   pub identifier : r.identifier ≡ id
@@ -29,6 +31,7 @@ pub record IsSlotReceipt (n : ℕ) (id : List ℕ) (old new : DeviceState) (r : 
   pub body : List ℕ
   pub shows : ShowsDocument new.cells r body
   pub stand : IsTrue old.tells → Extends (listed_image r.cells) new.image
+  pub needed : IsTrue old.tells → ListsNeeded new.cells new.image (document_of r.slot r.identifier body) r.cells
 
 -- how making the receipt of a slot may end: none where the slot kept no document with the identifier at entry
 abbrev pub ReceiptEnds : ℕ → List ℕ → DeviceState → DeviceState → Result (Option Receipt) AskFault → Type 0

@@ -5,6 +5,6 @@ pub mod Listing
 pub mod Making
 pub mod MakingLaws
 pub mod Naming
-pub mod Recording
+pub mod Needing
 pub mod Discard
 pub mod Viewing

@@ -19,8 +19,10 @@ use Rattle.receipt_text.specs.Listed.{AreListed, listed_image}
 use Rattle.receipt_text.specs.declared.receipt.Receipt.{Receipt}
 use Rattle.receipt_text.specs.declared.receipt.TheConstants.{MAX_RECEIPT_CELLS}
 use Rattle.receipt_check.specs.Checks.{ShowsDocument}
+use Rattle.receipt_check.specs.Needing.{ListsNeeded}
 
--- The receipt is of the document that a look-up gives: its cells alone keep this document, and they stand.
+-- The receipt is of the document that a look-up gives: its cells alone keep this document, and they stand; and they are just
+-- those that its being kept rests on.
 pub record IsReceiptOf (id : List ℕ) (old new : DeviceState) (r : Receipt) : Type 0 where
   pub identifier : r.identifier ≡ id
   pub listed : AreListed new.cells r.cells
@@ -28,6 +30,7 @@ pub record IsReceiptOf (id : List ℕ) (old new : DeviceState) (r : Receipt) : T
   pub first : IsTrue old.tells → IsLookedUp id body r.slot old new
   pub shows : ShowsDocument new.cells r body
   pub stand : IsTrue old.tells → Extends (listed_image r.cells) new.image
+  pub needed : IsTrue old.tells → ListsNeeded new.cells new.image (document_of r.slot r.identifier body) r.cells
 
 -- such a receipt has so many cells, which are more than it may have
 pub record IsTooLong (id : List ℕ) (old new : DeviceState) (count : ℕ) : Type 0 where

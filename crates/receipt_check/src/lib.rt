@@ -15,11 +15,11 @@
 //! **A receipt holds on.** One whose cells show a document and stand in an image is accepted on each device whose image
 //! extends that one, but for want of memory and reads that fail: `receipts_hold_on`.
 //!
-//! **What is made is accepted.** A receipt is made of the cells that are read while its document is looked up, and judged
-//! as a check will judge it before it goes out: `receipts_are_accepted`.
+//! **What is made is accepted.** A receipt is made of just the cells that its document's being kept rests on, and judged as
+//! a check will judge it before it goes out: `receipts_are_accepted`.
 //!
-//! Stands on `receipt_text` (the type of a receipt), on `kept_documents`, which decides whether a document is kept, and on
-//! `record_query`, for the look-up. Begin with `checking.rt`, then `making.rt`; `specs/Checks.antt` and `specs/Making.antt`
+//! Stands on `receipt_text` (the type of a receipt), on `kept_documents`, which decides whether a document is kept, on
+//! `receipt_cells`, which lists the cells, and on `record_query`, for the look-up. Begin with `checking.rt`, then `making.rt`; `specs/Checks.antt` and `specs/Making.antt`
 //! say how each may end.
 #![tactic(auto)]
 
@@ -30,7 +30,6 @@ mod looking;
 mod making;
 mod making_laws;
 mod naming;
-mod recorder;
 mod shown;
 
 pub use checking::{CheckRefusal, Checked, check_receipt};

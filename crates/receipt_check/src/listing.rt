@@ -1,21 +1,21 @@
 //! The cells that a document's being kept rests on.
 ghost use Rattle.std.specs.Prelude.{◌≡◌, ◌<◌, []};
 ghost use Rattle.worm_device.specs.Views.{seen_directly};
+ghost use Rattle.receipt_cells.specs.Whole.{ListsKept};
 ghost use Rattle.receipt_check.specs.Listing.{AreShown};
-ghost use Rattle.receipt_check.specs.Recording.{ListsKept};
 ghost use Rattle.receipt_check.specs.Judging.{JudgesReceipt};
 
-use crate::recorder::Recorder;
 use crate::shown::ShownCells;
 use cell_types::NoMemory;
 use kept_documents::{AskFault, is_kept};
+use receipt_cells::list_kept;
 use receipt_text::{ListedCells, Receipt};
 use std::alloc::Global;
-use worm_device::{Device, Direct, View};
+use worm_device::{Device, Direct};
 
-/// Lists the cells that are read to see whether the document is kept which has this identifier in this slot, and answers
-/// how many bytes its body has.
-pub(crate) fn list_kept<D: Device>(
+/// Lists the cells that being kept rests on, of the document that is kept in this slot with this identifier, and answers how
+/// many bytes its body has.
+pub(crate) fn list_directly<D: Device>(
     alloc: Global,
     device: &mut D,
     slot: u32,
@@ -23,30 +23,10 @@ pub(crate) fn list_kept<D: Device>(
     listed: &mut ListedCells,
 ) -> Result<Option<u32>, AskFault>
     requires { listed.old ≡ [] }
-    ensures { ListsKept slot id.now (seen_directly (D.state device.old) 0) (seen_directly (D.state device.new) 0)
+    ensures { ListsKept slot id.now (seen_directly (D.state device.old) 0) (seen_directly (D.state device.new) 0) []
         listed.new result }
 {
-    list_read(alloc, &mut Direct::new(device), slot, id, listed)
-}
-
-/// The same over any view.
-fn list_read<V: View>(
-    alloc: Global,
-    view: &mut V,
-    slot: u32,
-    id: &[u8],
-    listed: &mut ListedCells,
-) -> Result<Option<u32>, AskFault>
-    requires some { 0 < (V.seen view.old).cells }
-    requires none { listed.old ≡ [] }
-    ensures { ListsKept slot id.now (V.seen view.old) (V.seen view.new) listed.new result }
-{
-    let mut recorder = Recorder::new(view, listed);
-    let kept = is_kept(alloc, &mut recorder, slot, id);
-    if recorder.lost {
-        return Err(AskFault::NoMemory);
-    }
-    kept
+    list_kept(alloc, &mut Direct::new(device), slot, id, listed)
 }
 
 /// Whether the receipt's cells alone keep its document, on a device of so many cells.

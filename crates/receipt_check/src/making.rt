@@ -8,14 +8,14 @@
 //!     580             its stored bytes
 //!
 //! **How.** The document is looked up, which settles the volume, goes along the identifier's path and reads the document
-//! whole. Then `is_kept` is asked through a view that lists each written cell that is read; and the list alone is judged,
-//! as whoever checks the receipt will judge it. So what goes out shows the document, whatever was listed.
+//! whole. Then the cells are listed that its being kept rests on (`receipt_cells`); and the list alone is judged, as whoever
+//! checks the receipt will judge it. Over a device that tells what stands in it the list shows the document; whatever a
+//! device answers, nothing goes out that does not.
 //!
-//! **Which cells.** On a yes `is_kept` reads just what being kept rests on: cell 0; the slot's log cells and the document;
-//! for each posting its list's blocks from their first place up to it, or whole with the one jump cell taken; the buckets
-//! and child cells of the path down to the slot's bucket; and of a bucket that is passed with the same fingerprint that
-//! slot's log cells and document. That no other cell is listed is a matter of these reads: tests show it, and no clause
-//! does.
+//! **Which cells.** Cell 0; the slot's log cells and the document; for each posting its list's blocks from their first place
+//! up to it, or whole with the one jump cell taken; the buckets and child cells of the path down to the slot's bucket; and of
+//! a bucket that is passed with the same fingerprint that slot's log cells and document. Each of these, and no other:
+//! `ListsNeeded`.
 //!
 //! **A document that is not kept** has no receipt. It was found by its path, so its postings do not exist or one of them
 //! has no trail: evidence, by the rule of trails at the slot's done cell. A look-up names none there.
@@ -26,7 +26,7 @@ ghost use Rattle.volume_meaning.specs.Documents.{IsIdentifier};
 ghost use Rattle.receipt_check.specs.Making.{MakesReceipt};
 ghost use Rattle.receipt_check.specs.Judging.{GivesReceipt, LimitEnds};
 
-use crate::listing::{list_kept, shows_document};
+use crate::listing::{list_directly, shows_document};
 use crate::looking::look_up;
 use crate::naming::name_unkept;
 use cell_types::Refusal;
@@ -54,7 +54,7 @@ pub fn make_receipt<D: Device>(alloc: Global, device: &mut D, id: &[u8]) -> Resu
     };
     match receipt_of_slot(alloc, device, found.slot, id) {
         Ok(Some(receipt)) => within_limit(receipt),
-        Ok(None) => Err(name_unkept(device, found.slot)),
+        Ok(None) => Err(name_unkept(found.slot)),
         Err(AskFault::NoMemory) => Err(Refusal::NoMemory),
         Err(AskFault::ReadFault) => Err(Refusal::DeviceFault),
     }
@@ -74,7 +74,7 @@ fn receipt_of_slot<D: Device>(
         return Err(AskFault::NoMemory);
     };
     let mut listed = ListedCells::new(alloc);
-    let kept = match list_kept(alloc, device, slot, id, &mut listed) {
+    let kept = match list_directly(alloc, device, slot, id, &mut listed) {
         Ok(kept) => kept,
         Err(why) => return Err(why),
     };
@@ -83,6 +83,11 @@ fn receipt_of_slot<D: Device>(
     };
     // Known of listed cells once they are counted: their addresses rise.
     let _count = listed.len();
+    // Only a device that does not tell what stands in it comes to this no, or to the one below: there each listed cell stands,
+    // and the list keeps the document by itself.
+    if let Some(_beyond) = listed.first_from(cells) {
+        return Ok(None);
+    }
     let receipt = Receipt {
         slot,
         identifier: Text::new(identifier),
@@ -90,9 +95,7 @@ fn receipt_of_slot<D: Device>(
     };
     match shows_document(alloc, &receipt, cells) {
         Ok(true) => Ok(Some(receipt)),
-        // All that was read for a yes is listed, so the list says yes too. That a second asking goes as the first one went
-        // no contract says.
-        Ok(false) => Err(AskFault::NoMemory),
+        Ok(false) => Ok(None),
         Err(_) => Err(AskFault::NoMemory),
     }
 }

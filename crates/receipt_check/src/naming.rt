@@ -1,35 +1,28 @@
 //! Evidence that a document is not kept.
 ghost use Rattle.receipt_check.specs.Naming.{NamesUnkept};
 
-use cell_types::{Evidence, Refusal};
+use cell_types::{Evidence, MAX_SLOTS, RecordCell, Refusal, encode};
 use tamper_rules::MISSING_TRAIL;
-use worm_device::Device;
 
 /// The done cell of the first slot.
-const FIRST_DONE_CELL: u64 = 6;
+const FIRST_DONE_CELL: u32 = 6;
 
 /// How many log cells a slot has.
-const SLOT_CELLS: u64 = 4;
+const SLOT_CELLS: u32 = 4;
 
-/// The refusal of a document that was found in this slot and is not kept: its done cell is the evidence. A device that
-/// does not tell its image may no longer have one there, and then no document is there either.
-pub(crate) fn name_unkept<D: Device>(device: &mut D, slot: u32) -> Refusal
-    ensures { NamesUnkept slot (D.state device.old) (D.state device.new) result }
+/// The refusal of a document that was looked up in this slot and is not kept: the slot's done cell is the evidence. The
+/// look-up has read it, and it holds one record alone, so it is not read again.
+pub(crate) fn name_unkept(slot: u32) -> Refusal
+    ensures { NamesUnkept slot result }
 {
-    let place = FIRST_DONE_CELL + SLOT_CELLS * u64::from(slot);
-    if place >= u64::from(device.cells()) {
+    // No volume has such a slot, and so no document is in it.
+    if slot >= MAX_SLOTS {
         return Refusal::Absent;
     }
-    let cell = place as u32;
-    let Ok(read) = device.read(cell) else {
-        return Refusal::DeviceFault;
-    };
-    let Some(found) = read else {
-        return Refusal::Absent;
-    };
+    let cell = FIRST_DONE_CELL + SLOT_CELLS * slot;
     Refusal::Tampered(Evidence {
         rule: MISSING_TRAIL,
         cell,
-        found,
+        found: encode(RecordCell::Done { slot }, cell),
     })
 }

@@ -30,7 +30,7 @@ returns-in-Ok-Some g c =
 pub returns-in-Ok-None : goal.returns-in-Ok-None
 returns-in-Ok-None g c =
     let given = rw c.in-Ok-None.field-0-is at c.in-Ok-None.ensures in
-    named c.args.id.now c.in-Ok.found _ _ _ _ c.in-Ok.ensures given.viewed given.ends c.name_unkept.result
+    named c.args.id.now c.in-Ok.found _ _ _ c.in-Ok.ensures given.viewed given.ends c.name_unkept.result
     c.name_unkept.ensures
 
 -- memory lacked

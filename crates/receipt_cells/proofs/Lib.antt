@@ -1,0 +1,12 @@
+pub mod Bodying
+pub mod Founding
+pub mod KeptAlone
+pub mod Listing
+pub mod NodeListing
+pub mod PathListing
+pub mod Rowing
+pub mod SlotListing
+pub mod Sufficing
+pub mod TrailEnds
+pub mod Trailing
+pub mod Wholing

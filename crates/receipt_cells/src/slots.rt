@@ -1,0 +1,64 @@
+//! The cells of a slot whose document stands: its log cells, and those of the document.
+ghost use Rattle.std.specs.Prelude.{◌<◌, ◌≤◌};
+ghost use Rattle.cell_types.specs.Layout.{IsLayout};
+ghost use Rattle.receipt_cells.specs.Path.{AreLogCells, IsUnlisted, ListsSlot};
+
+use crate::cells::list_cells;
+use cell_types::{Fault, Geometry, STAMPED_VERSION, Volume};
+use commit_record::document_cells;
+use document_store::slot_part;
+use kept_documents::AskFault;
+use receipt_text::ListedCells;
+use worm_device::View;
+
+/// Lists the log cells of the slot and the cells of its document. The document is not read as one: the caller knows that it
+/// stands, and where none does, no list is owed.
+pub(crate) fn list_slot<V: View>(
+    view: &mut V,
+    volume: &Volume,
+    slot: u32,
+    listed: &mut ListedCells,
+) -> Result<(), AskFault>
+    requires slot { slot < volume.now.geometry.slots }
+    requires size { volume.now.geometry.cells ≤ (V.seen view.old).cells }
+    ensures { ListsSlot volume.now.geometry slot (V.seen view.old) (V.seen view.new) listed.old listed.new result }
+{
+    let found = match slot_part(view, volume, slot) {
+        Ok(found) => found,
+        Err(fault) => return unlisted(fault),
+    };
+    let Some(part) = found else {
+        return Ok(());
+    };
+    let log = volume.geometry.reserve_at(slot);
+    if let Err(why) = list_cells(view, log, log + log_cells(&volume.geometry), listed) {
+        return Err(why);
+    }
+    list_cells(
+        view,
+        part.start,
+        part.start + document_cells(part.bytes),
+        listed,
+    )
+}
+
+/// How many log cells a slot has that is done: its stamp cell is one where documents are stamped.
+fn log_cells(geometry: &Geometry) -> u32
+    ensures exists { IsLayout geometry.now }
+    ensures count { AreLogCells geometry.now result }
+{
+    if geometry.version() == STAMPED_VERSION {
+        return 4;
+    }
+    3
+}
+
+/// No document stands in a slot whose cells are out of order, and nothing is owed. A read that failed ends the listing.
+fn unlisted(fault: Fault) -> Result<(), AskFault>
+    ensures { IsUnlisted fault result }
+{
+    match fault {
+        Fault::Tampered(_) => Ok(()),
+        Fault::Failed => Err(AskFault::ReadFault),
+    }
+}
