@@ -10,9 +10,9 @@ use Rattle.worm_device.specs.Views.{ViewState}
 use Rattle.posting_list.specs.declared.reach.Reach.{Reach}
 use Rattle.posting_list.specs.declared.sought_term.SoughtTerm.{SoughtTerm}
 
--- The term's list must not pass the slot: of some body that has the term's tag the postings exist, and the slot's in the
--- term's list all have trails from the list's first block. Whether a document of this body stands in the slot is not
--- asked. Where a view does not tell its image nothing is known to stand.
+-- The term's list must not pass the slot: of some body that has the term's tag the postings exist, and those that it
+-- has in the term's list, under the slot, all have trails from the list's first block. Whether a document of this body
+-- stands in the slot is not asked. Where a view does not tell its image nothing is known to stand.
 pub record IsSlotOwed (r : Reach) (term : SoughtTerm) (s : ViewState) (slot : ℕ) : Type 0 where
   pub tells : IsTrue s.base.tells
   pub volume : IsVolume s.cells s.image r.volume.geometry

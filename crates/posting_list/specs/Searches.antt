@@ -59,8 +59,8 @@ IsFalsePosting entry (Tampered e) =
     (e.rule ≡ FAKE_POSTING) × (e.cell ≡ cell_of entry)
     × (e.found ≡ record_bytes (posting_record (posting_of entry)) (cell_of entry))
 
--- The next slot of a term's list at or past one. It lies before the horizon, is one of the volume and done; and the list
--- vouches for it where that is said.
+-- The next slot of a term's list at or past one. It lies before the horizon, is one of the volume and done; and the
+-- list vouches for it where that is said.
 abbrev pub NextSlotEnds : Reach → SoughtTerm → ℕ → ViewState → ViewState → Result (Option Landing) Fault → Type 0
 NextSlotEnds r term from old new (Ok (Some n)) =
     (from ≤ n.slot) × (n.slot < MAX_SLOTS) × (n.slot < r.horizon)

@@ -17,8 +17,10 @@
 //! which tells how many there are, and where this one has another tag, it finds the term's among the others by
 //! bisection.
 //!
-//! **What is not passed**: a slot whose document stands and has the term, where its postings have trails from the
-//! list's first block. Whoever may only write blank cells can't take these away. He may add postings: so one whose slot
+//! **What is not passed**: a slot of which the postings in the list, those of some body that has the term, have trails
+//! from the list's first block. Whether this document stands there is not asked: so the slot of each kept document that
+//! has the term is come to, and so is one whose document is broken. Whoever may only write blank cells can't take these
+//! trails away. He may add postings: so one whose slot
 //! is not done, or lies at or past the horizon, is evidence (rule 9), and `has` vouches only for what it has read.
 //!
 //! **Memory** is taken before: `SoughtTerms` holds each term's list and tag. `TermLists` is made of it over a view that

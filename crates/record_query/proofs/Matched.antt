@@ -68,7 +68,8 @@ module _ (g : Layout) (n : ℕ) (terms : List (List ℕ)) {old mid new : ViewSta
   ends_from (Ok None) ends = (
     ends.0 ∙ same,
     λ tells. ⊎_elim
-        (λ (undone : IsDoneSlot g mid.image n → ⊥). inl (λ (was : IsDoneSlot g old.image n). undone (slot_done_on before.image was)))
+        (λ (undone : IsDoneSlot g mid.image n → ⊥).
+        inl (λ (was : IsDoneSlot g old.image n). undone (slot_done_on before.image was)))
         (λ (other : HoldsOther g new.image n terms). inr other)
         (ends.1 (told tells)),
   )

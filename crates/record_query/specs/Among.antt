@@ -33,9 +33,9 @@ pub record IsMatchAmong (g : Layout) (image : Image) (slots : List ℕ) (k : ℕ
 abbrev pub AreOfVolume : Layout → List ℕ → Type 0
 AreOfVolume g slots = (i : ℕ) → i < length slots → slice_index slots i < g.slots
 
--- Each document that one of the first k slots of the row held, and that has the terms, has its match. Each of these slots
--- that was done has its match, or holds a document that lacks one of the terms. Each match tells of one that is held; and
--- slots rise.
+-- Each document that one of the first k slots of the row held, and that has the terms, has its match. Each of these
+-- slots that was done has its match, or holds a document that lacks one of the terms. Each match tells of one that is
+-- held; and slots rise.
 pub record FoundAmong (g : Layout) (slots : List ℕ) (k : ℕ) (terms : List (List ℕ)) (before after : Image)
     (matches : List Match) : Type 0 where
   pub all : (i : ℕ) (id body : List ℕ) → i < k → HoldsDocument g before (slice_index slots i) id body

@@ -55,8 +55,8 @@ abbrev pub FindsAllOf : ℕ → Image → List (List ℕ) → List Match → Lis
 FindsAllOf cells image terms matches documents =
     (d : Document) → Contains documents d → HasTerms cells image d.body terms → HasMatch matches d.slot d.id d.body
 
--- The list of the word leads to the slot: of some body that has the word's tag the postings exist, and the slot's in this
--- list have trails. Whether such a document stands in the slot is not asked.
+-- The list of the word leads to the slot: of some body that has the word's tag the postings exist, and those that it
+-- has in this list, under the slot, have trails. Whether such a document stands in the slot is not asked.
 pub record IsListed (cells : ℕ) (image : Image) (g : Layout) (word : List ℕ) (slot : ℕ) : Type 0 where
   pub body : List ℕ
   pub postings : HasPostings g body
@@ -88,8 +88,9 @@ abbrev pub IsJudged : ℕ → Image → List (List ℕ) → List Match → ℕ �
 IsJudged cells image terms matches slot = HasMatchAt matches slot ⊎ StandsWithout cells image terms slot
 
 -- What was found: of each list of documents that was kept at entry those that have the terms; and where nobody else
--- wrote, of each that is kept at exit. Each slot to which the lists of all terms led at entry is judged, and where nobody
--- else wrote, each to which they lead at exit. Each match tells of a document that stands at exit; and slots rise.
+-- wrote, of each that is kept at exit. Each slot to which the lists of all terms led at entry is judged, and where
+-- nobody else wrote, each to which they lead at exit. Each match tells of a document that stands at exit; and slots
+-- rise.
 pub record Finds (terms : List (List ℕ)) (old new : DeviceState) (matches : List Match) : Type 0 where
   pub all : (documents : List Document) → Kept old.cells old.image documents
       → FindsAllOf old.cells old.image terms matches documents

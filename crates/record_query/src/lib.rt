@@ -14,7 +14,8 @@
 //!
 //! A slot that the lists of all words have in common is a **candidate**. A find reads each candidate whole,
 //! and returns it only if the words are there: a posting alone is no match. It returns each match that was
-//! kept when it began, or names a cell as evidence of tampering, whatever somebody else writes meanwhile.
+//! kept when it began, or names a cell as evidence of tampering, whatever somebody else writes meanwhile. A
+//! candidate whose document is broken is named, and never passed.
 //! If no word leads to a broken document, a find does not read it; an audit does. The volume's version says
 //! what a word is. If words are made of characters, a find takes memory for one body at a time.
 //!

@@ -53,7 +53,7 @@ pub record IsTimeListed (cells : ℕ) (image : Image) (n seconds : ℕ) : Type 0
   pub trail : Trail image (pool_at layout) cells at (time_posting n seconds) (list_at layout layout.lists)
 
 -- Each slot to which the time list leads with a stamp from one time to another has its match: none is passed whose
--- document is broken. A time posting has the first 32 bits of a slot's number.
+-- document is broken. A time posting has room for 32 bits of a slot's number.
 abbrev pub TellsListed : ℕ → Image → ℕ → ℕ → List TimeMatch → Type 0
 TellsListed cells image from to matches =
     (n seconds : ℕ) → n < 2 ^ 32 → IsTimeListed cells image n seconds → from ≤ seconds → seconds ≤ to

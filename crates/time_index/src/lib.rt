@@ -10,7 +10,8 @@
 //!                       the first at or past 1001 is that of 2000, which is past the span
 //!     from 0 to 3000    slot 5 is not done: cell 581 is evidence, by rule 9
 //!
-//! **None that is kept is hidden.** A posting that has a trail is passed by no search, whatever somebody else writes. He may
+//! **None that is kept is hidden.** A posting that has a trail is passed by no search, whatever somebody else writes, and
+//! where the document of its slot is broken this is named. He may
 //! add an entry under the same stamp, and which of two a search meets depends on where it began; so the search is made
 //! again for each stamp that it meets, which answers the posting with the trail. An entry leads to a match only where its
 //! slot is done, lies before the horizon and has this very stamp; any other entry is evidence (rule 9). Stamps rise with the

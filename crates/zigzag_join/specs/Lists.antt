@@ -53,8 +53,8 @@ HasPaid reads next has s =
     CountsAsks s → s.view.base.reads + (s.next_reads * next + s.has_reads * has) ≤ reads + paid_reads s
 
 -- What every call keeps, and so every row of calls: the lists stay as many and what they are, the view is read alone,
--- and what a list must not pass, vouches for or may name once it does ever after, and a live slot stays one. Counts of asks don't fall. paid says
--- HasPaid of the counts of old, and of each earlier time on.
+-- what a list must not pass, vouches for or may name once it does ever after, and a live slot stays one. Counts of asks
+-- don't fall. paid says HasPaid of the counts of old, and of each earlier time on.
 pub record Keeps (old new : ListsState) : Type 0 where
   pub lists : new.lists ≡ old.lists
   pub made_of : new.made_of ≡ old.made_of

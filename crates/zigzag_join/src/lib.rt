@@ -10,7 +10,8 @@
 //!
 //! A list may hold more than it should: whoever may write blank cells adds postings, and what a list answers then need
 //! not be a slot that all have. So a list does not tell what it has, but which slots it **must not pass**, and for
-//! which it **vouches**. The join passes no slot that no list may pass, and each list vouches for its answer. Where
+//! which it **vouches**. The join passes no slot that no list may pass, and each list vouches for its answer, which is
+//! live: a list comes to live slots alone. Where
 //! `next` lands is never taken for such a slot: `has` decides, and where it says no, the join goes on by one. A list may
 //! tell as it lands that it vouches for the slot (`land`); where all of them do, none is asked whether it has it.
 //!

@@ -15,16 +15,16 @@ pub struct Landing {
 
 /// Some lists of slots. A slot is a number below 16,777,216; the slot behind the last one may be asked for too.
 pub trait Lists {
-    /// What the lists are, for contracts: which slots they must not pass, for which they vouch, what they may name as
-    /// evidence, and how many reads an ask may cost.
+    /// What the lists are, for contracts: which slots they must not pass, for which they vouch, which are live, what
+    /// they may name as evidence, and how many reads an ask may cost.
     ghost state: { Self → ListsState };
 
     /// How many lists there are.
     fn count(&self) -> u32
         ensures count { result ≡ (state self.now).lists };
 
-    /// A slot of a list at or past one, `None` where there is none. Between the two there is no slot that the list
-    /// must not pass.
+    /// A slot of a list at or past one, which is live, `None` where there is none. Between the two there is no slot
+    /// that the list must not pass.
     fn next(&mut self, which: u32, from: u32) -> Result<Option<u32>, Fault>
         requires which { which < (state self.old).lists }
         requires from { from ≤ MAX_SLOTS }
