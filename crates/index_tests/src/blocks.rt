@@ -2,6 +2,7 @@
 ghost use Rattle.std.specs.Prelude.{◌≡◌, ◌+◌, IfOk};
 ghost use Rattle.worm_memory.specs.Device.{memory_of};
 
+use crate::searches::Counted;
 use cell_types::{Cell, Evidence, Fault, NoMemory, RecordCell, encode};
 use jump_block::{
     Entry, Front, KeptFronts, KnownFront, Span, entry, first_at_least, first_from_kept,
@@ -9,7 +10,7 @@ use jump_block::{
 };
 use std::alloc::Global;
 use std::test::Fail;
-use worm_device::{Device, Direct, Failed, View};
+use worm_device::{Device, Direct};
 use worm_memory::MemoryDevice;
 
 const TAG: [u8; 6] = [1, 2, 3, 4, 5, 6];
@@ -110,28 +111,6 @@ fn a_cell_that_is_no_posting_is_named(rt: HostRuntime) -> Result<(), Fail> {
     });
     assert_eq!(rt; first_at_least(&mut view, 36, 10), Err(named));
     Ok(())
-}
-
-/// A view that counts what it is asked for.
-#[derive(Drop)]
-struct Counted<V> {
-    view: V,
-    asked: u32,
-}
-
-impl<V: View> View for Counted<V> {
-    ghost seen = { λ held. V.seen held.view };
-
-    ghost proper = { λ held. V.proper held.view };
-
-    fn cells(&self) -> u32 {
-        self.view.cells()
-    }
-
-    fn read(&mut self, at: u32) -> Result<Option<Cell>, Failed> {
-        self.asked = self.asked.saturating_add(1);
-        self.view.read(at)
-    }
 }
 
 #[test]

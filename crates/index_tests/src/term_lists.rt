@@ -1,4 +1,5 @@
 //! The lists of terms on the small volume of 8 slots and 2 lists on 1,000 cells. Its cells were written by hand.
+use crate::searches::Counted;
 use cell_types::{Cell, Evidence, FIRST_VERSION, Fault, Geometry, MAX_SLOTS, Volume};
 use jump_index::Bounds;
 use posting_list::{SoughtTerms, TermLists};
@@ -6,7 +7,7 @@ use std::alloc::Global;
 use std::test::Fail;
 use volume_meaning::WordRule;
 use word_reader::words;
-use worm_device::{Device, Direct, Failed, View};
+use worm_device::{Device, Direct};
 use worm_memory::MemoryDevice;
 use zigzag_join::Lists;
 
@@ -183,28 +184,6 @@ fn a_posting_of_a_slot_at_the_horizon_is_named(rt: HostRuntime) -> Result<(), Fa
     assert_eq!(rt; answers.next, Err(named));
     assert_eq!(rt; answers.common, Err(named));
     Ok(())
-}
-
-/// A view that counts what it is asked for.
-#[derive(Drop)]
-struct Counted<V> {
-    view: V,
-    asked: u32,
-}
-
-impl<V: View> View for Counted<V> {
-    ghost seen = { λ held. V.seen held.view };
-
-    ghost proper = { λ held. V.proper held.view };
-
-    fn cells(&self) -> u32 {
-        self.view.cells()
-    }
-
-    fn read(&mut self, at: u32) -> Result<Option<Cell>, Failed> {
-        self.asked = self.asked.saturating_add(1);
-        self.view.read(at)
-    }
 }
 
 #[test]
