@@ -12,7 +12,7 @@ pub const MIN_STORED_BYTES: u32 = 2;
 pub const MAX_STORED_BYTES: u32 = 1_048_777;
 
 /// A record, without the address of the cell that it stands in.
-#[derive(Clone, Copy, Debug, PartialEq, Eq)]
+#[derive(Clone, Copy, PartialEq, Eq)]
 pub enum RecordCell {
     /// Kind 1, in cell 0: the version of the format, the numbers of slots and lists, and of the
     /// device's cells.

@@ -6,6 +6,7 @@ ghost use Rattle.cell_types.specs.declared.refusal.Refusal.TheVariants as refusa
 
 use crate::Cell;
 use std::alloc::AllocError;
+use std::fmt;
 use thiserror::Error;
 
 /// A written cell that breaks a rule: the rule's number, the cell's, and what stands there.
@@ -53,7 +54,7 @@ impl From<AllocError> for NoMemory {
 }
 
 /// Why a command gives no answer. Prints as the line that a program shows for it.
-#[derive(Clone, Copy, Debug, PartialEq, Eq, Error)]
+#[derive(Clone, Copy, PartialEq, Eq, Error)]
 pub enum Refusal {
     /// The words are no command. Which words are, the program says, and not this line.
     #[error("no such command")]
@@ -145,7 +146,7 @@ pub enum Refusal {
 }
 
 /// Why a copy of a volume onto another device is not made. Prints as the line that a program shows for it.
-#[derive(Clone, Copy, Debug, PartialEq, Eq, Error)]
+#[derive(Clone, Copy, Error)]
 pub enum CopyRefusal {
     /// The words are no copy.
     #[error("{}", Refusal::Usage)]
@@ -171,6 +172,19 @@ pub enum CopyRefusal {
     /// The target has a document, in this slot, past all those of the volume that is copied.
     #[error("target has a further document in slot {0}")]
     Longer(u32),
+}
+
+// Each is shown as its line, which has each field. A derived form, with a step for each, takes long to prove.
+impl fmt::Debug for Refusal {
+    fn fmt<W: fmt::Write>(&self, f: &mut fmt::Formatter<W>) -> fmt::Result {
+        fmt::Display::fmt(self, f)
+    }
+}
+
+impl fmt::Debug for CopyRefusal {
+    fn fmt<W: fmt::Write>(&self, f: &mut fmt::Formatter<W>) -> fmt::Result {
+        fmt::Display::fmt(self, f)
+    }
 }
 
 impl From<AllocError> for Refusal {

@@ -72,7 +72,7 @@ fn the_records_of_a_volume_are_read_and_written(rt: HostRuntime) {
         ),
     ] {
         let cell = cell_of(&rt, digits);
-        assert_eq!(rt; decode(cell, at), Some(value), "cell {at}");
+        assert!(rt; decode(cell, at) == Some(value), "cell {at}");
         assert_eq!(rt; address_of(cell), at, "cell {at}");
         assert_eq!(rt; content_of(cell), None, "cell {at}");
         assert!(rt; is_well_formed(&value, at), "cell {at}");
@@ -88,7 +88,7 @@ fn a_copy_of_a_record_means_nothing_elsewhere(rt: HostRuntime) {
         (583, 0x08_00000000_ca978112ca1bbd_00000230, 560),
     ] {
         let cell = cell_of(&rt, digits);
-        assert_eq!(rt; decode(cell, at), None, "cell {at}");
+        assert!(rt; decode(cell, at).is_none(), "cell {at}");
         assert_eq!(rt; address_of(cell), target, "cell {at}");
         assert!(rt; decode(cell, target).is_some(), "cell {at}");
     }
@@ -165,7 +165,7 @@ fn a_content_cell_counts_its_bytes(rt: HostRuntime) {
         bytes: *b"\x01ahello world\0\0",
     };
     assert_eq!(rt; content_of(cell), Some(held));
-    assert_eq!(rt; decode(cell, 0x6c64_0000), None);
+    assert!(rt; decode(cell, 0x6c64_0000).is_none());
     for (digits, length) in [
         (0x11_01_0000000000000000000000000000, Some(1)),
         (0x11_00_0000000000000000000000000000, Some(1)),
