@@ -12,7 +12,7 @@ use cell_types::Content;
 use worm_device::View;
 
 /// How far the bytes of a document part were read. It holds at most one cell's bytes.
-#[derive(Clone, Copy, Debug, PartialEq, Eq)]
+#[derive(Clone, Copy)]
 pub struct Position {
     /// The number of its first cell.
     start: u32,

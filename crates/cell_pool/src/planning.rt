@@ -11,7 +11,7 @@ use cell_types::{RecordCell, encode};
 use worm_device::{OVERLAY_CELLS, Overlay, Owner, View};
 
 /// Why a cell is not planned. Nothing has changed then.
-#[derive(Clone, Copy, Debug, PartialEq, Eq)]
+#[derive(Clone, Copy)]
 pub enum PlanFault {
     /// It is planned already.
     Taken,

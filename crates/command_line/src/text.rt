@@ -14,7 +14,7 @@ use std::alloc::AllocError;
 const LINE_BYTES: usize = 64;
 
 /// A call of the sink failed.
-#[derive(Clone, Copy, Debug, PartialEq, Eq)]
+#[derive(Clone, Copy)]
 pub struct SinkFailed;
 
 impl From<Failed> for SinkFailed {

@@ -14,7 +14,7 @@ pub const MAX_QUERY_WORDS: usize = 8;
 pub const MAX_DOCUMENTS: u32 = 2_000;
 
 /// A command, with what it was given.
-#[derive(Clone, Copy, Debug, PartialEq, Eq)]
+#[derive(Clone, Copy)]
 pub enum Command<'a> {
     /// Make the device a volume of so many slots and lists, and of this version, each in its range.
     Format { slots: u32, lists: u16, version: u8 },

@@ -7,7 +7,7 @@ use cell_types::{Cell, Volume};
 use worm_device::{Failed, View};
 
 /// Where the log ends, and the last reserve cell before.
-#[derive(Clone, Copy, Debug, PartialEq, Eq)]
+#[derive(Clone, Copy)]
 pub struct LogEnd {
     /// A slot whose reserve cell is blank, behind one whose reserve cell is written or with none before it; or the
     /// number of slots, where the last slot's is written.

@@ -8,7 +8,7 @@ use cell_types::{Cell, Geometry, RecordCell, Refusal, Volume, decode};
 use worm_device::{Failed, View};
 
 /// Why a volume is not opened.
-#[derive(Clone, Copy, Debug, PartialEq, Eq)]
+#[derive(Clone, Copy)]
 pub enum OpenRefusal {
     /// Cell 0 is blank.
     NotFormatted,

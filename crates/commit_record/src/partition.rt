@@ -1,7 +1,7 @@
 //! The three parts of a slot's cells.
 
 /// Where the three parts of a slot's cells begin, and how many cells each has.
-#[derive(Clone, Copy, Debug, PartialEq, Eq)]
+#[derive(Clone, Copy)]
 pub struct Parts {
     /// The first cell of the posting blocks and hash nodes.
     pub blocks: u32,

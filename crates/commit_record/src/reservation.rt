@@ -5,7 +5,7 @@ ghost use Rattle.commit_record.specs.Reservations.{has_ended, reservation_of};
 use crate::slot::SlotState;
 
 /// Cells of the pool: the first, and how many they are.
-#[derive(Clone, Copy, Debug, PartialEq, Eq)]
+#[derive(Clone, Copy)]
 pub struct Reservation {
     pub start: u32,
     pub length: u32,

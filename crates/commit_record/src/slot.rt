@@ -10,7 +10,7 @@ use worm_device::View;
 
 /// What has come of a slot. `start` is the first cell that it reserves and `length` how many they are; `bytes` is how
 /// many stored bytes its document has, and `journal` how many cells its journal has.
-#[derive(Clone, Copy, Debug, PartialEq, Eq)]
+#[derive(Clone, Copy)]
 pub enum SlotState {
     /// Nothing.
     Unused,

@@ -12,7 +12,7 @@ use host_ports::Sink;
 use worm_device::View;
 
 /// Why a body was not put whole.
-#[derive(Clone, Copy, Debug, PartialEq, Eq)]
+#[derive(Clone, Copy)]
 pub enum BodyFault {
     /// A written cell breaks a rule.
     Tampered(Evidence),

@@ -9,7 +9,7 @@ use cell_types::{Fault, Volume};
 use worm_device::View;
 
 /// A document that is whole.
-#[derive(Clone, Copy, Debug, PartialEq, Eq)]
+#[derive(Clone, Copy)]
 pub struct Stored {
     /// How many bytes its identifier has, 1 to 200.
     pub identifier_length: u8,

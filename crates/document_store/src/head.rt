@@ -17,7 +17,7 @@ use worm_device::View;
 pub const FRONT_BYTES: usize = 201;
 
 /// What stands before the body, and how many bytes the body has.
-#[derive(Clone, Copy, Debug, PartialEq, Eq)]
+#[derive(Clone, Copy)]
 pub struct Head {
     /// The identifier, and zeros behind it.
     pub id: [u8; MAX_IDENTIFIER_BYTES],

@@ -13,7 +13,7 @@ use tamper_rules::BROKEN_DOCUMENT;
 use worm_device::View;
 
 /// Where the document of a slot lies.
-#[derive(Clone, Copy, Debug, PartialEq, Eq)]
+#[derive(Clone, Copy)]
 pub struct Part {
     pub slot: u32,
     /// The first of its cells.

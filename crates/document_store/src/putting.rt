@@ -15,7 +15,7 @@ use worm_device::View;
 const PIECE_BYTES: u32 = 240;
 
 /// Why the body of a part was not put whole.
-#[derive(Clone, Copy, Debug, PartialEq, Eq)]
+#[derive(Clone, Copy)]
 pub(crate) enum PutFault {
     /// The part spells no document.
     Broken,

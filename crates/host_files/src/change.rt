@@ -1,7 +1,7 @@
 //! What a file in memory keeps a record of, and what a failed write of it leaves.
 
 /// A change of the bytes, or of what of them is sure.
-#[derive(Clone, Copy, Debug, PartialEq, Eq)]
+#[derive(Clone, Copy)]
 pub enum FileChange {
     /// Sixteen bytes were put at this offset.
     Put { from: u64, piece: [u8; 16] },

@@ -51,7 +51,7 @@ impl Hold for File {
 }
 
 /// Whether calls may go on.
-#[derive(Clone, Copy, Debug, PartialEq, Eq)]
+#[derive(Clone, Copy)]
 enum Access {
     /// No call was made yet.
     Free,

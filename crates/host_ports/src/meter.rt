@@ -19,7 +19,7 @@ pub trait Meter {
 }
 
 /// A meter that shows nothing.
-#[derive(Clone, Copy, Debug, Drop)]
+#[derive(Clone, Copy, Drop)]
 pub struct Silent;
 
 impl Meter for Silent {

@@ -8,7 +8,7 @@ use cell_types::Cell;
 use std::alloc::{AllocError, Global};
 
 /// A document as it is stored: the identifier's length, the identifier and the body, as content cells.
-#[derive(Debug, Drop)]
+#[derive(Drop)]
 pub struct StoredDocument {
     /// How many stored bytes it has.
     pub bytes: u32,

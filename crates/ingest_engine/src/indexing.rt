@@ -14,7 +14,7 @@ use std::alloc::Global;
 use worm_device::{Device, Direct};
 
 /// Where the path of an identifier ends: its entry goes there.
-#[derive(Clone, Copy, Debug)]
+#[derive(Clone, Copy)]
 pub struct PathEnd {
     pub place: Open,
     pub level: Level,

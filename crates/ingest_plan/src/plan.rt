@@ -21,7 +21,7 @@ use word_reader::words;
 use worm_device::{Device, Direct, Overlay, PlannedCells, View};
 
 /// The index of a document, planned.
-#[derive(Debug, Drop)]
+#[derive(Drop)]
 pub struct PlannedIndex {
     /// How many cells its new blocks and its new node have, from the edge on.
     pub block_length: u32,

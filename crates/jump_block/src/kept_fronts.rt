@@ -13,7 +13,7 @@ pub const KEPT_FRONTS: usize = 9;
 
 /// Fronts of some blocks, as far as they are known. They may be kept from one search to the next, over one device,
 /// since what is known of an image is known of each that extends it.
-#[derive(Clone, Copy, Debug, PartialEq, Eq)]
+#[derive(Clone, Copy)]
 pub struct KeptFronts {
     held: [KnownFront; 9],
 }

@@ -3,7 +3,7 @@ use crate::Entry;
 
 /// The first `count` places of a block are known to be of its front. What is known once stays true, whatever is
 /// written into blank cells.
-#[derive(Clone, Copy, Debug, PartialEq, Eq)]
+#[derive(Clone, Copy)]
 pub struct KnownFront {
     /// The number of the block's first cell.
     pub block: u32,

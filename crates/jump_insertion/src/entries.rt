@@ -1,7 +1,7 @@
 //! What is inserted, and where.
 
 /// A posting that is to be inserted.
-#[derive(Clone, Copy, Debug, PartialEq, Eq)]
+#[derive(Clone, Copy)]
 pub struct NewEntry {
     /// 256 times the slot, plus the ordinal.
     pub key: u32,

@@ -9,7 +9,7 @@ use log_audit::{KeptCells, record_at};
 use std::marker::Model;
 
 /// What a posting says. Contracts see the definition of one.
-#[derive(Clone, Copy, Debug, PartialEq, Eq)]
+#[derive(Clone, Copy, PartialEq, Eq)]
 pub struct HeldPosting {
     key: u32,
     last: u8,

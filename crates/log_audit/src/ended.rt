@@ -15,7 +15,7 @@ use commit_record::document_cells;
 
 /// What has come of a slot that has ended. `start` is the first cell that it reserves and `length` how many they are;
 /// `bytes` is how many stored bytes its document has, and `journal` how many cells its journal has.
-#[derive(Clone, Copy, Debug, PartialEq, Eq)]
+#[derive(Clone, Copy)]
 pub enum EndedSlot {
     /// It was given up.
     Abandoned {

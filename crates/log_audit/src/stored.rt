@@ -13,7 +13,7 @@ use commit_record::document_cells;
 
 /// A slot that is done. `start` is the first cell that it reserves and `length` how many they are: the blocks first,
 /// then the document of `bytes` stored bytes, and last the journal of `journal` cells.
-#[derive(Clone, Copy, Debug, PartialEq, Eq)]
+#[derive(Clone, Copy)]
 pub struct StoredSlot {
     pub slot: u32,
     pub start: u32,

@@ -10,7 +10,7 @@ use recovery_engine::{apply_journal, finish, journal_of};
 use worm_device::Device;
 
 /// What an ingest writes: blocks, document and journal, in this order, from one cell of the pool on.
-#[derive(Clone, Copy, Debug)]
+#[derive(Clone, Copy)]
 pub struct Plan<'a> {
     /// The first cell that is reserved.
     pub start: u32,

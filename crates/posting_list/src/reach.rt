@@ -4,7 +4,7 @@ use jump_index::Bounds;
 
 /// The volume whose lists are asked, and how far it is filled: the slots from the horizon on hold nothing yet, and no
 /// block lies outside the bounds.
-#[derive(Clone, Copy, Debug, PartialEq, Eq)]
+#[derive(Clone, Copy)]
 pub struct Reach {
     pub volume: Volume,
     /// The first slot that is not taken.

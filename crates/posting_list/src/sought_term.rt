@@ -7,7 +7,7 @@ use term_tags::{list_of, tag};
 use word_reader::Term;
 
 /// The list of a term, and the tag that its postings have there.
-#[derive(Clone, Copy, Debug, PartialEq, Eq)]
+#[derive(Clone, Copy)]
 pub struct SoughtTerm {
     pub list: u16,
     pub tag: [u8; 6],

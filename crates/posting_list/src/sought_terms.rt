@@ -8,7 +8,7 @@ use std::alloc::Global;
 use word_reader::Term;
 
 /// The terms that are sought, each in its list. They are all of a search that takes memory.
-#[derive(Debug, Drop)]
+#[derive(Drop)]
 pub struct SoughtTerms {
     pub terms: Vec<SoughtTerm>,
     ghost few: { vec_len terms < 2 ^ 32 },

@@ -21,7 +21,7 @@ pub struct Receipt {
 }
 
 /// Why a text is not read as a receipt.
-#[derive(Clone, Copy, Debug, PartialEq, Eq)]
+#[derive(Clone, Copy)]
 pub enum ReceiptFault {
     /// The line of this number, from 1, is the first that breaks the form, or has the first address that the device
     /// does not have.

@@ -7,7 +7,7 @@ use cell_types::{MAX_LISTS, MAX_SLOTS};
 use command_line::number_up_to;
 
 /// How many slots and lists the target has, or is to have, each in its range.
-#[derive(Clone, Copy, Debug, PartialEq, Eq)]
+#[derive(Clone, Copy)]
 pub struct Numbers {
     /// The slots.
     pub slots: u32,

@@ -14,7 +14,7 @@ use tamper_rules::BROKEN_JOURNAL;
 use worm_device::Device;
 
 /// Where a journal stands, and which cells it may ask for.
-#[derive(Clone, Copy, Debug, PartialEq, Eq)]
+#[derive(Clone, Copy)]
 pub struct Journal {
     /// The first of its cells, and how many they are.
     pub place: u32,

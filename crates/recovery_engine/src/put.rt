@@ -27,7 +27,7 @@ use tamper_rules::OTHER_TARGET;
 use worm_device::{Device, Written};
 
 /// What is named where a cell holds something else than it is to hold.
-#[derive(Clone, Copy, Debug, PartialEq, Eq)]
+#[derive(Clone, Copy)]
 pub enum Blame {
     /// What stands in the cell, which breaks the rule of this number.
     Rule(u8),
@@ -36,7 +36,7 @@ pub enum Blame {
 }
 
 /// A cell by its number, what it is to hold, and what is named where it holds something else.
-#[derive(Clone, Copy, Debug, PartialEq, Eq)]
+#[derive(Clone, Copy)]
 pub struct Put {
     pub at: u32,
     pub value: Cell,

@@ -14,7 +14,7 @@ pub struct Timed {
 }
 
 /// What befalls the calls of one command.
-#[derive(Debug, Drop)]
+#[derive(Drop)]
 pub struct Schedule {
     /// The moment after which each call fails.
     pub stop: Option<Moment>,
@@ -25,7 +25,7 @@ pub struct Schedule {
 }
 
 /// One event of a script.
-#[derive(Debug, Drop)]
+#[derive(Drop)]
 pub enum Event {
     /// Make the device a volume of this version, which is the script's.
     Format {
@@ -72,7 +72,7 @@ pub enum Event {
 }
 
 /// A device of so many cells, and what befalls it, in order.
-#[derive(Debug, Drop)]
+#[derive(Drop)]
 pub struct Script {
     pub cells: u32,
     pub events: Sequence<Event>,

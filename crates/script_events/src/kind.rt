@@ -7,7 +7,7 @@ ghost use Rattle.script_events.specs.Json.{Exactly};
 use serde_json::Value;
 
 /// The kinds of events.
-#[derive(Clone, Copy, Debug, PartialEq, Eq)]
+#[derive(Clone, Copy)]
 pub enum EventKind {
     Format,
     Ingest,

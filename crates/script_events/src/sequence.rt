@@ -2,7 +2,7 @@
 use std::marker::Model;
 
 /// Values, one after another. Contracts see the list of them.
-#[derive(Debug, Drop)]
+#[derive(Drop)]
 pub struct Sequence<T> {
     values: Vec<T>,
 }

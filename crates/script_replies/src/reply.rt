@@ -11,7 +11,7 @@ use volume_audit::AuditReport;
 use worm_memory::Crash;
 
 /// The reply to an event.
-#[derive(Debug, Drop)]
+#[derive(Drop)]
 pub enum Reply {
     /// The device is a volume now.
     Formatted,

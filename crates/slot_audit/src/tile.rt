@@ -10,7 +10,7 @@ use log_audit::KeptCells;
 use volume_meaning::{BLOCK_CELLS, NODE_CELLS};
 
 /// A block or a node: its first cell, and how many cells belong to it.
-#[derive(Clone, Copy, Debug, PartialEq, Eq)]
+#[derive(Clone, Copy)]
 pub struct Tile {
     pub target: u32,
     pub size: u32,

@@ -12,7 +12,7 @@ use std::marker::Model;
 use word_reader::Term;
 
 /// A posting and its list. Contracts see the definition of one.
-#[derive(Clone, Copy, Debug, PartialEq, Eq)]
+#[derive(Clone, Copy)]
 pub struct ListedPosting {
     list: u16,
     key: u32,

@@ -12,7 +12,7 @@ use word_reader::Term;
 pub const MAX_TAGS: u32 = 256;
 
 /// A posting of a document: its list, its ordinal there, the greatest ordinal there, and the tag.
-#[derive(Clone, Copy, Debug, PartialEq, Eq)]
+#[derive(Clone, Copy)]
 pub struct Posting {
     pub list: u16,
     pub ordinal: u8,

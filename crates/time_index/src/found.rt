@@ -2,7 +2,7 @@
 use document_store::Text;
 
 /// A document of a span of time.
-#[derive(Debug, Drop)]
+#[derive(Drop)]
 pub struct TimeMatch {
     pub slot: u32,
     /// Its identifier, 1 to 200 bytes.

@@ -22,7 +22,7 @@ use tamper_rules::STRAY_CELL;
 use worm_device::View;
 
 /// A slot and its stamp.
-#[derive(Clone, Copy, Debug, PartialEq, Eq)]
+#[derive(Clone, Copy)]
 pub(crate) struct Stamped {
     pub slot: u32,
     /// In seconds.

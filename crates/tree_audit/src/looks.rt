@@ -9,7 +9,7 @@ use log_audit::{KeptCells, lies_in_pool, record_at};
 use volume_meaning::NODE_CELLS;
 
 /// What a bucket says: the slot of a document, and the first bytes of its identifier's digest.
-#[derive(Clone, Copy, Debug, PartialEq, Eq)]
+#[derive(Clone, Copy)]
 pub struct HeldBucket {
     pub slot: u32,
     pub fingerprint: [u8; 7],

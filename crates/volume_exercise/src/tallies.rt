@@ -11,7 +11,7 @@ use script_replies::Reply;
 use std::alloc::{AllocError, Global};
 
 /// What the replies come to.
-#[derive(Clone, Copy, Debug, PartialEq, Eq)]
+#[derive(Clone, Copy)]
 struct Tally {
     /// How many documents were acknowledged.
     acknowledged: usize,

@@ -6,7 +6,7 @@ ghost use Rattle.volume_meaning.specs.Words as words;
 use cell_types::FOLDED_VERSION;
 
 /// What the words of a body are made of.
-#[derive(Clone, Copy, Debug, PartialEq, Eq)]
+#[derive(Clone, Copy)]
 pub enum WordRule {
     /// Bytes: ASCII letters and digits, and every byte from 0x80 on, with A to Z as a to z.
     Ascii,

@@ -12,7 +12,7 @@ use crate::reader::{is_of_word, lower};
 use std::alloc::{AllocError, Global};
 
 /// One of the terms, and what the bytes so far say of it.
-#[derive(Debug, Drop)]
+#[derive(Drop)]
 struct Sought {
     bytes: Vec<u8>,
     /// Whether it is among the words that have ended.
@@ -260,7 +260,7 @@ fn are_found(sought: &[Sought]) -> bool
 ///
 /// Most runs begin with the first byte of no term. They are passed by a table, and nothing is kept of them but their
 /// last byte. A term that was found is sought no longer, and its first byte leaves the table.
-#[derive(Debug, Drop)]
+#[derive(Drop)]
 pub(crate) struct ByteMatcher {
     sought: Vec<Sought>,
     /// Not 0 for each byte that a term begins with, of those that were not found.

@@ -11,7 +11,7 @@ use std::alloc::{AllocError, Global};
 use volume_meaning::WordRule;
 
 /// How a matcher goes about it, by the rule of words.
-#[derive(Debug, Drop)]
+#[derive(Drop)]
 enum Way {
     ByBytes(ByteMatcher),
     ByCharacters(TextMatcher),
@@ -20,7 +20,7 @@ enum Way {
 /// Whether all of some terms are among the words of bytes that come one by one.
 ///
 /// By bytes it keeps none of them, and takes memory in `new` alone. By characters it keeps them all.
-#[derive(Debug, Drop)]
+#[derive(Drop)]
 pub struct Matcher {
     way: Way,
 }

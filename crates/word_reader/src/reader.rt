@@ -19,7 +19,7 @@ pub fn words(alloc: Global, bytes: &[u8], rule: WordRule) -> Result<Vec<Term>, N
 }
 
 /// Why there is no one term of a word.
-#[derive(Clone, Copy, Debug, PartialEq, Eq)]
+#[derive(Clone, Copy)]
 pub enum WordFault {
     /// It does not hold exactly one term.
     BadWord,

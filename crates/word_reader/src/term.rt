@@ -3,7 +3,7 @@ use std::alloc::{AllocError, Global};
 use std::marker::Model;
 
 /// The bytes of one word, at least one. Contracts see the list of them.
-#[derive(Debug, Drop)]
+#[derive(Drop)]
 pub struct Term {
     bytes: Vec<u8>,
 }

@@ -12,7 +12,7 @@ use std::alloc::{AllocError, Global};
 use volume_meaning::WordRule;
 
 /// Whether all of some terms are among the words of bytes that come one by one.
-#[derive(Debug, Drop)]
+#[derive(Drop)]
 pub(crate) struct TextMatcher {
     terms: Vec<Term>,
     /// The bytes so far.

@@ -7,7 +7,7 @@ use crate::{Failed, View};
 use cell_types::{Cell, Fault, RecordCell, breach, decode};
 
 /// What stands in a cell.
-#[derive(Clone, Copy, Debug, PartialEq, Eq)]
+#[derive(Clone, Copy)]
 pub enum Found {
     /// Nothing.
     Blank,
@@ -34,7 +34,7 @@ pub fn look<V: View>(view: &mut V, at: u32) -> Result<Found, Failed>
 }
 
 /// A record that was read, and its sixteen bytes.
-#[derive(Clone, Copy, Debug, PartialEq, Eq)]
+#[derive(Clone, Copy)]
 pub struct ReadRecord {
     pub cell: Cell,
     pub held: RecordCell,

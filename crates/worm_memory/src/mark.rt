@@ -20,7 +20,7 @@ pub struct Mark {
 
 /// Which call made a change: how many steps and calls its command had made, with this call. A change by hand, as a
 /// crash makes it, has those that had been made by then.
-#[derive(Clone, Copy, Debug, PartialEq, Eq)]
+#[derive(Clone, Copy)]
 pub struct CallNumbers {
     /// How many steps there were.
     pub steps: u64,

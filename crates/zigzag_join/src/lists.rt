@@ -6,7 +6,7 @@ ghost use Rattle.zigzag_join.specs.Lists.{ListsState, Keeps, ListNextEnds, LandE
 use cell_types::Fault;
 
 /// A slot that a list has come to.
-#[derive(Clone, Copy, Debug, PartialEq, Eq)]
+#[derive(Clone, Copy)]
 pub struct Landing {
     pub slot: u32,
     /// Whether the list vouches for the slot. Where it does not say so, it may have it all the same.
