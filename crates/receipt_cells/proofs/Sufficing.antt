@@ -1,5 +1,5 @@
--- The cells that a document and a hash path rest on suffice: where they stand in another image, the document stands there,
--- and the path leads there.
+-- The cells that a document and a hash path rest on suffice: where they stand in another image, the document stands
+-- there, and the path leads there.
 use Rattle.std.proofs.Common.{◌≡◌, ◌≢◌, ◌+◌, ◌⊎◌, ⊎_elim, inl, inr, ℕ, List, Bool, true, false, Some, refl, sym, subst, ◌∙◌, true≢false}
 use Rattle.std.specs.Prelude.{length}
 use Rattle.std.specs.Str.{bytes_eq}

@@ -12,8 +12,8 @@ use Rattle.kept_documents.specs.declared.fault.AskFault.TheVariants.{NoMemory, R
 use Rattle.receipt_cells.specs.Needed.{ListsJust}
 use Rattle.receipt_cells.specs.Postings.{IsOfPostings}
 
--- Where the slot had a stamp at entry, the postings of a document with this body and that stamp exist and had their trails,
--- the cells of these are listed, and no others.
+-- Where the slot had a stamp at entry, the postings of a document with this body and that stamp exist and had their
+-- trails, the cells of these are listed, and no others.
 abbrev pub StampedEnds : Layout → ℕ → List ℕ → ViewState → ViewState → List (ℕ × List ℕ) → List (ℕ × List ℕ)
     → Result Unit AskFault → Type 0
 StampedEnds g n body old new listed later (Ok u) =

@@ -15,9 +15,10 @@ use Rattle.volume_meaning.specs.Slots.{IsDone, IsStampOf, cells_for}
 use Rattle.volume_meaning.specs.Volumes.{Holds, IsWritten}
 use Rattle.receipt_text.specs.Listed.{listed_image}
 
--- Cell c is one that the posting's trail from this block rests on. Of the block that has the posting these are the front's
--- cells from place 0 up to it; of one that leads on the whole front, the jump cell that is taken, and those from its target
--- on. The target's cells up to its first key in the jump cell's span are among the latter: the posting's own key lies in it.
+-- Cell c is one that the posting's trail from this block rests on. Of the block that has the posting these are the
+-- front's cells from place 0 up to it; of one that leads on the whole front, the jump cell that is taken, and those
+-- from its target on. The target's cells up to its first key in the jump cell's span are among the latter: the
+-- posting's own key lies in it.
 pub data TrailRests (image : Image) (from to : ℕ) (p : PostingFields) (c : ℕ) : ℕ → Type 0 where
   in_front : (block place k : ℕ) → place < 128 → InFront image block place p → k ≤ place → c ≡ block + k
       → TrailRests image from to p c block
@@ -37,9 +38,9 @@ pub data SlotRests (g : Layout) (image : Image) (n c : ℕ) : Type 0 where
   document_cell : (start length bytes journal k : ℕ) → IsDone g image n start length bytes journal → k < cells_for bytes
       → c ≡ document_at start length bytes journal + k → SlotRests g image n c
 
--- Cell c is one that the path of the sought identifier rests on, from a node of this level down to the slot's bucket: the
--- bucket of the node; and where it is passed, the cells of its slot if it has the same fingerprint, the child cell, and those
--- from the node below on.
+-- Cell c is one that the path of the sought identifier rests on, from a node of this level down to the slot's bucket:
+-- the bucket of the node; and where it is passed, the cells of its slot if it has the same fingerprint, the child
+-- cell, and those from the node below on.
 pub data PathRests (g : Layout) (image : Image) (s : Sought) (c : ℕ) : ℕ → ℕ → Type 0 where
   bucket_cell : (node level : ℕ) → c ≡ node + nibble s.digest level → PathRests g image s c node level
   passed_slot : (node level n : ℕ) → IsPassed image s (node + nibble s.digest level)
@@ -63,8 +64,8 @@ pub data RestsOn (cells : ℕ) (image : Image) (g : Layout) (d : Document) (c : 
 abbrev pub IsListed : List (ℕ × List ℕ) → ℕ → Type 0
 IsListed listed c = IsWritten (listed_image listed) c
 
--- The new list has the cells of the old one, each of these, and no other; and each with the value that the old one has, or
--- that stands in the image.
+-- The new list has the cells of the old one, each of these, and no other; and each with the value that the old one
+-- has, or that stands in the image.
 pub record ListsJust (These : ℕ → Type 0) (image : Image) (old new : List (ℕ × List ℕ)) : Type 0 where
   pub only : (c : ℕ) → IsListed new c → IsListed old c ⊎ These c
   pub all : (c : ℕ) → These c → IsListed new c

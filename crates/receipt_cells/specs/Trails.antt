@@ -21,8 +21,8 @@ TrailCells pool cells image block p c = TrailRests image pool cells p c block
 abbrev pub HopCells : ℕ → ℕ → ℕ → ℕ → Type 0
 HopCells block level digit c = IsInRow block (block + 128) c ⊎ (c ≡ pointer_at block level digit)
 
--- Where the posting had a trail from the block at entry, and the block a key from low up to the bound, the cells of this
--- trail are listed, and no others.
+-- Where the posting had a trail from the block at entry, and the block a key from low up to the bound, the cells of
+-- this trail are listed, and no others.
 abbrev pub BlockEnds : ℕ → ℕ → PostingFields → ℕ → ℕ → ViewState → ViewState → List (ℕ × List ℕ) → List (ℕ × List ℕ)
     → Result Unit AskFault → Type 0
 BlockEnds pool block p low bound old new listed later (Ok u) =

@@ -12,8 +12,8 @@ use Rattle.kept_documents.specs.declared.fault.AskFault.{AskFault}
 use Rattle.kept_documents.specs.declared.fault.AskFault.TheVariants.{NoMemory, ReadFault}
 use Rattle.receipt_cells.specs.Needed.{ListsJust, RestsOn}
 
--- Where this volume kept a document in slot n with the identifier at entry, just the cells are listed that its being kept
--- rests on.
+-- Where this volume kept a document in slot n with the identifier at entry, just the cells are listed that its being
+-- kept rests on.
 abbrev pub DocumentEnds : Layout → ℕ → List ℕ → ViewState → ViewState → List (ℕ × List ℕ) → List (ℕ × List ℕ)
     → Result Unit AskFault → Type 0
 DocumentEnds g n id old new listed later (Ok u) =

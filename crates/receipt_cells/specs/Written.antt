@@ -9,8 +9,8 @@ use Rattle.kept_documents.specs.declared.fault.AskFault.TheVariants.{NoMemory, R
 use Rattle.receipt_text.specs.Listed.{listed_image}
 use Rattle.receipt_cells.specs.Needed.{IsListed}
 
--- The new list has the cells of the old one, each of these that was written before, and no cell besides; and each with the
--- value that the old one has, or that stands afterwards.
+-- The new list has the cells of the old one, each of these that was written before, and no cell besides; and each with
+-- the value that the old one has, or that stands afterwards.
 pub record ListsWritten (These : ℕ → Type 0) (before after : Image) (old new : List (ℕ × List ℕ)) : Type 0 where
   pub only : (c : ℕ) → IsListed new c → IsListed old c ⊎ These c
   pub all : (c : ℕ) → These c → IsWritten before c → IsListed new c

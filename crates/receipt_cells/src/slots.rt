@@ -11,8 +11,8 @@ use kept_documents::AskFault;
 use receipt_text::ListedCells;
 use worm_device::View;
 
-/// Lists the log cells of the slot and the cells of its document. The document is not read as one: the caller knows that it
-/// stands, and where none does, no list is owed.
+/// Lists the log cells of the slot and the cells of its document. The document is not read as one: the caller knows
+/// that it stands, and where none does, no list is owed.
 pub(crate) fn list_slot<V: View>(
     view: &mut V,
     volume: &Volume,

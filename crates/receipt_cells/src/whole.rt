@@ -14,8 +14,8 @@ use receipt_text::ListedCells;
 use std::alloc::Global;
 use worm_device::View;
 
-/// Lists the cells that being kept rests on, of the document that is kept in this slot with this identifier. Answers how
-/// many bytes its body has, `None` where none is kept: then, and at an error, the list counts for nothing.
+/// Lists the cells that being kept rests on, of the document that is kept in this slot with this identifier. Answers
+/// how many bytes its body has, `None` where none is kept: then, and at an error, the list counts for nothing.
 ///
 /// # Errors
 ///

@@ -22,8 +22,8 @@ JudgesReceipt cells r (Ok true) = (body : List ℕ) × ShowsDocument cells r bod
 JudgesReceipt cells r (Ok false) = (body : List ℕ) → ShowsDocument cells r body → ⊥
 JudgesReceipt cells r (Err failed) = ⊤
 
--- The receipt is of this slot and this identifier. Its cells keep a document, and stand; and they are just those that are
--- needed.
+-- The receipt is of this slot and this identifier. Its cells keep a document, and stand; and they are just those that
+-- are needed.
 pub record IsSlotReceipt (n : ℕ) (id : List ℕ) (old new : DeviceState) (r : Receipt) : Type 0 where
   pub slot : r.slot ≡ n
   pub identifier : r.identifier ≡ id

@@ -21,8 +21,8 @@ use Rattle.receipt_text.specs.declared.receipt.TheConstants.{MAX_RECEIPT_CELLS}
 use Rattle.receipt_check.specs.Checks.{ShowsDocument}
 use Rattle.receipt_check.specs.Needing.{ListsNeeded}
 
--- The receipt is of the document that a look-up gives: its cells alone keep this document, and they stand; and they are just
--- those that its being kept rests on.
+-- The receipt is of the document that a look-up gives: its cells alone keep this document, and they stand; and they
+-- are just those that its being kept rests on.
 pub record IsReceiptOf (id : List ℕ) (old new : DeviceState) (r : Receipt) : Type 0 where
   pub identifier : r.identifier ≡ id
   pub listed : AreListed new.cells r.cells
@@ -39,8 +39,8 @@ pub record IsTooLong (id : List ℕ) (old new : DeviceState) (count : ℕ) : Typ
   pub counted : length receipt.cells ≡ count
   pub more : MAX_RECEIPT_CELLS < count
 
--- The cell is the done cell of the slot of the document that a look-up gives. The slot kept no body with the identifier at
--- entry; and where nobody else wrote, the document's postings do not exist, or one of them has no trail.
+-- The cell is the done cell of the slot of the document that a look-up gives. The slot kept no body with the
+-- identifier at entry; and where nobody else wrote, the document's postings do not exist, or one of them has no trail.
 pub record IsUnkept (id : List ℕ) (old new : DeviceState) (cell : ℕ) : Type 0 where
   pub slot : ℕ
   pub body : List ℕ

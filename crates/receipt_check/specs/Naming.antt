@@ -8,7 +8,8 @@ use Rattle.cell_types.specs.declared.refusal.Refusal.{Refusal}
 use Rattle.cell_types.specs.declared.refusal.Refusal.TheVariants.{Absent, Tampered}
 use Rattle.tamper_rules.specs.declared.numbers.TheConstants.{MISSING_TRAIL}
 
--- The slot's done cell is evidence, with the record that says that it is done; no document is in a slot that no volume has.
+-- The slot's done cell is evidence, with the record that says that it is done; no document is in a slot that no volume
+-- has.
 abbrev pub NamesUnkept : ℕ → Refusal → Type 0
 NamesUnkept n (Tampered e) =
     (e.rule ≡ MISSING_TRAIL) × (e.cell ≡ done_at n) × (e.found ≡ record_bytes (Done n) (done_at n))

@@ -6,8 +6,8 @@ use Rattle.volume_meaning.specs.Documents.{Document}
 use Rattle.volume_meaning.specs.Volumes.{IsVolume}
 use Rattle.receipt_cells.specs.Needed.{ListsJust, RestsOn}
 
--- On a device of so many cells the list has each cell that the document's being kept rests on, with the value that stands
--- there, and no other cell.
+-- On a device of so many cells the list has each cell that the document's being kept rests on, with the value that
+-- stands there, and no other cell.
 pub record ListsNeeded (cells : ℕ) (image : Image) (d : Document) (listed : List (ℕ × List ℕ)) : Type 0 where
   pub layout : Layout
   pub volume : IsVolume cells image layout

@@ -13,8 +13,8 @@ use receipt_text::{ListedCells, Receipt};
 use std::alloc::Global;
 use worm_device::{Device, Direct};
 
-/// Lists the cells that being kept rests on, of the document that is kept in this slot with this identifier, and answers how
-/// many bytes its body has.
+/// Lists the cells that being kept rests on, of the document that is kept in this slot with this identifier, and
+/// answers how many bytes its body has.
 pub(crate) fn list_directly<D: Device>(
     alloc: Global,
     device: &mut D,

@@ -7,18 +7,18 @@
 //!     36, 37, 560     its two postings, and its bucket
 //!     580             its stored bytes
 //!
-//! **How.** The document is looked up, which settles the volume, goes along the identifier's path and reads the document
-//! whole. Then the cells are listed that its being kept rests on (`receipt_cells`); and the list alone is judged, as whoever
-//! checks the receipt will judge it. Over a device that tells what stands in it the list shows the document; whatever a
-//! device answers, nothing goes out that does not.
+//! **How.** The document is looked up, which settles the volume, goes along the identifier's path and reads the
+//! document whole. Then the cells are listed that its being kept rests on (`receipt_cells`); and the list alone is
+//! judged, as whoever checks the receipt will judge it. Over a device that tells what stands in it the list shows the
+//! document; whatever a device answers, nothing goes out that does not.
 //!
-//! **Which cells.** Cell 0; the slot's log cells and the document; for each posting its list's blocks from their first place
-//! up to it, or whole with the one jump cell taken; the buckets and child cells of the path down to the slot's bucket; and of
-//! a bucket that is passed with the same fingerprint that slot's log cells and document. Each of these, and no other:
-//! `ListsNeeded`.
+//! **Which cells.** Cell 0; the slot's log cells and the document; for each posting its list's blocks from their first
+//! place up to it, or whole with the one jump cell taken; the buckets and child cells of the path down to the slot's
+//! bucket; and of a bucket that is passed with the same fingerprint that slot's log cells and document. Each of these,
+//! and no other: `ListsNeeded`.
 //!
-//! **A document that is not kept** has no receipt. It was found by its path, so its postings do not exist or one of them
-//! has no trail: evidence, by the rule of trails at the slot's done cell. A look-up names none there.
+//! **A document that is not kept** has no receipt. It was found by its path, so its postings do not exist or one of
+//! them has no trail: evidence, by the rule of trails at the slot's done cell. A look-up names none there.
 //!
 //! `specs/Making.antt` says how the making may end, and `receipts_are_accepted` what a receipt is worth.
 ghost use Rattle.std.specs.Prelude.{◌<◌, ◌^◌, length};
@@ -41,9 +41,10 @@ use worm_device::Device;
 ///
 /// # Errors
 ///
-/// `NotFormatted`, `NotAVolume` and `WrongSize` by cell 0; `Tampered` where a look-up names a cell, and where the document
-/// is there but not each of its postings has a trail (13, at the done cell of its slot); `Absent` where no document on the
-/// identifier's path has it; `ReceiptTooLong` where more than 1,000,000 cells would be listed; `DeviceFault`; `NoMemory`.
+/// `NotFormatted`, `NotAVolume` and `WrongSize` by cell 0; `Tampered` where a look-up names a cell, and where the
+/// document is there but not each of its postings has a trail (13, at the done cell of its slot); `Absent` where no
+/// document on the identifier's path has it; `ReceiptTooLong` where more than 1,000,000 cells would be listed;
+/// `DeviceFault`; `NoMemory`.
 pub fn make_receipt<D: Device>(alloc: Global, device: &mut D, id: &[u8]) -> Result<Receipt, Refusal>
     requires { IsIdentifier id.now }
     ensures { MakesReceipt id.now (D.state device.old) (D.state device.new) result }
@@ -83,8 +84,8 @@ fn receipt_of_slot<D: Device>(
     };
     // Known of listed cells once they are counted: their addresses rise.
     let _count = listed.len();
-    // Only a device that does not tell what stands in it comes to this no, or to the one below: there each listed cell stands,
-    // and the list keeps the document by itself.
+    // Only a device that does not tell what stands in it comes to this no, or to the one below: there each listed cell
+    // stands, and the list keeps the document by itself.
     if let Some(_beyond) = listed.first_from(cells) {
         return Ok(None);
     }
