@@ -43,7 +43,7 @@ fn leads_to<V: View>(
     requires level { level ≤ 8 }
     ensures { AsksBlock pool block (wanted_posting wanted) low bound (V.seen view.old) (V.seen view.new) result }
 {
-    // Place by place: whoever lists what is read lists no place behind the posting.
+    // Place by place, so that no place behind the posting is read.
     let mut known = KnownFront {
         block,
         count: 0,
