@@ -30,14 +30,14 @@ use Rattle.hash_tree.specs.declared.path.PathStep.{PathStep}
 use Rattle.hash_tree.specs.declared.path.PathStep.TheVariants.{Candidate, End, PathFull}
 use Rattle.hash_tree.proofs.Growing.{led_within_on, passed_up_to_on, placed_on, reached_on}
 use Rattle.hash_tree.proofs.Licence.{bucket_place}
-use Rattle.hash_tree.proofs.Paths.{false_never}
+use Rattle.hash_tree.proofs.Paths.{bucket_passed, false_never, passed_along}
 use Rattle.identifier_lookup.specs.Candidates.{Compares, HoldsNamed, NamesBucket}
 use Rattle.identifier_lookup.specs.Costs.{WalkCosts}
-use Rattle.identifier_lookup.specs.Walks.{HasIdentifierTrail, IsBlankIn, IsPassedAbove, LooksUpSlot, NoneHasTrail, WalkEnds, WalksPath}
+use Rattle.identifier_lookup.specs.Walks.{HasIdentifierTrail, IsBlankIn, IsFirstOnPath, IsPassedAbove, LiesOnPath, LooksUpSlot, NoneHasTrail, WalkEnds, WalksPath, at_bucket, at_child, in_slot}
 use Rattle.identifier_lookup.specs.declared.answers.Walk.TheVariants as walks
 use Rattle.identifier_lookup.specs.declared.candidates.Named.{Named}
 use Rattle.identifier_lookup.proofs.Costing.{CostsSoFar, below_candidate, below_next, compared_below, costs_begin, costs_end, costs_end_there, costs_more, passed_is_way}
-use Rattle.identifier_lookup.proofs.Licence.{fake_licensed, half_byte, names_licensed}
+use Rattle.identifier_lookup.proofs.Licence.{fake_licensed, half_byte, names_licensed, slot_cell}
 
 -- The path is passed up to this level. Nothing has gone wrong, and the level's node is one of the volume's.
 pub record WalkSoFar (g : Layout) (edge : ℕ) (id : List ℕ) (old now : ViewState) (level : Level) : Type 0 where
@@ -107,6 +107,35 @@ end_is_blank {image = image} {place = place} (blank_child none less blank is sam
 end_is_blank {place = place} (full none last is same) = absurd (no_full_end place same)
 end_is_blank {place = place} (no_bucket found bad is same) = absurd (no_fault (End place) _ same)
 end_is_blank {place = place} (no_child found none less bad is same) = absurd (no_fault (End place) _ same)
+
+abbrev no_answer : Evidence → Result PathStep Evidence
+no_answer e = Err e
+
+same_fault : (e f : Evidence) → no_answer e ≡ no_answer f → e ≡ f
+same_fault e f same = cc
+
+-- what stands for a bucket or a child cell and is none lies on the path that is passed up to its level
+fault_lies : (g : Layout) (cells edge : ℕ) (id : List ℕ) (image : Image) (level last : Level) (e : Evidence)
+    → IsPassedUpTo g edge image (root_at g) (sought_in cells g id) level → EndsAt g edge image level last (Err e)
+    → LiesOnPath g cells image id e
+fault_lies g cells edge id image level last e up (candidate slot fresh held is same) =
+    absurd (no_fault _ e (sym same))
+fault_lies g cells edge id image level last e up (blank_bucket blank is same) = absurd (no_fault _ e (sym same))
+fault_lies g cells edge id image level last e up (blank_child none less blank is same) =
+    absurd (no_fault _ e (sym same))
+fault_lies g cells edge id image level last e up (full none bottom is same) = absurd (no_fault _ e (sym same))
+fault_lies g cells edge id image level last e up (no_bucket found bad is same) =
+    let one = same_fault e _ same in
+    at_bucket (node_of g level) level.number up.passed (ap (λ (x : Evidence). x.rule) one)
+    (ap (λ (x : Evidence). x.cell) one ∙ ap (λ (d : List ℕ). node_of g level + nibble d level.number) (sym up.digest))
+fault_lies g cells edge id image level last e up (no_child found none less bad is same) =
+    let one = same_fault e _ same in
+    at_child (node_of g level) level.number up.passed
+    (subst (λ (c : ℕ). IsPassed image (sought_in cells g id) c)
+    (ap (λ (d : List ℕ). node_of g level + nibble d level.number) (sym up.digest)) (bucket_passed up none)) less
+    (ap (λ (x : Evidence). x.rule) one)
+    (ap (λ (x : Evidence). x.cell) one
+    ∙ ap (λ (d : List ℕ). node_of g level + 16 + nibble d level.number) (sym up.digest))
 
 -- a candidate's bucket names its slot, with the fingerprint of the digest
 candidate_is_held : {g : Layout} {edge : ℕ} {image : Image} {level last : Level} {slot bucket : ℕ}
@@ -193,6 +222,7 @@ module _ (g : Layout) (horizon edge : ℕ) (id : List ℕ) (old now mid : ViewSt
     viewed = viewed_then so_far.viewed step.viewed;
     costs = costs_here (Err Failed) step;
     ends = rose_from _ _ _ so_far.faults step.ends;
+    named = tt;
   }
   walk_fails (Tampered e) step = record {
     viewed = viewed_then so_far.viewed step.viewed;
@@ -209,6 +239,11 @@ module _ (g : Layout) (horizon edge : ℕ) (id : List ℕ) (old now mid : ViewSt
                 shown.broken volume (reached_on level step.viewed.image (so_far.reached tells)) ends;
           },
     );
+    named = λ tells volume.
+        let is = (step.ends.3 (told tells)).0 in
+        subst (λ (c : ℕ). LiesOnPath g c mid.image id e) (cells_now (Err (Tampered e)) step (whole (Err (Tampered e)) step))
+        (fault_lies g old.cells edge id mid.image is.level next e
+        (passed_along is.comes (up_to (Err (Tampered e)) step tells volume)) is.ends);
   }
 
   -- the path ends
@@ -263,6 +298,7 @@ module _ (g : Layout) (horizon edge : ℕ) (id : List ℕ) (old now mid : ViewSt
               none = none_open place.child step.ends.0 blank seen.1 tells;
             },
       );
+      named = tt;
     }
 
   -- it is full
@@ -305,6 +341,7 @@ module _ (g : Layout) (horizon edge : ℕ) (id : List ℕ) (old now mid : ViewSt
               (last_bucket tells volume);
         },
       );
+      named = tt;
     }
 
   -- there is a candidate, and its slot's document was compared
@@ -353,6 +390,37 @@ module _ (g : Layout) (horizon edge : ℕ) (id : List ℕ) (old now mid : ViewSt
           compared.viewed compared.costs (viewed_then (whole offered step) compared.viewed) under
           (λ tells volume. on_path_on compared.viewed.image (way_here offered step tells volume)) (bucket_later compared)
 
+      -- the path is passed up to the bucket's node
+      passed_later : Viewed mid new → IsTrue old.base.tells → IsVolume old.cells old.image g
+          → PassedTo new.image (sought_in new.cells g id) (root_at g) (node_of g next) next.number
+      passed_later viewed tells volume =
+          subst (λ (c : ℕ). PassedTo new.image (sought_in c g id) (root_at g) (node_of g next) next.number)
+          (sym (viewed_then (whole offered step) viewed).cells)
+          (passed_to_on viewed.image (passed_here offered step tells volume))
+
+      -- the slot is the first on the path
+      first_later : {result : Result Bool Fault} → Compares g horizon named id mid new result → IsTrue old.base.tells
+          → IsVolume old.cells old.image g → IsFirstOnPath g new.cells new.image id slot
+      first_later compared tells volume = record {
+        node = node_of g next;
+        level = next.number;
+        passed = passed_later compared.viewed tells volume;
+        bucket = bucket_later compared tells;
+      }
+
+      -- so what is named is its bucket, or a cell of the slot
+      compare_lies : (e : Evidence) {result : Result Bool Fault} → Compares g horizon named id mid new result
+          → IsTrue old.base.tells → IsVolume old.cells old.image g
+          → NamesBucket g horizon named mid new e ⊎ LookFails g slot mid new (Tampered e)
+          → LiesOnPath g new.cells new.image id e
+      compare_lies e compared tells volume h =
+          let first = first_later compared tells volume in
+          ⊎_elim
+          (λ (b : NamesBucket g horizon named mid new e).
+          at_bucket (node_of g next) next.number (passed_later compared.viewed tells volume) b.0 (b.1 ∙ bucket_here))
+          (λ (l : LookFails g slot mid new (Tampered e)). in_slot slot first (slot_cell (l.2 (named_later tells))))
+          h
+
       compare_names : (e : Evidence) → Viewed mid new
           → NamesBucket g horizon named mid new e ⊎ LookFails g slot mid new (Tampered e)
           → WalkEnds g horizon edge id old new (Err (Tampered e))
@@ -383,11 +451,13 @@ module _ (g : Layout) (horizon edge : ℕ) (id : List ℕ) (old now mid : ViewSt
         viewed = viewed_then (whole offered step) compared.viewed;
         costs = costs_whole compared;
         ends = rose_from _ _ _ (step.ends.1 ∙ so_far.faults) compared.ends;
+        named = tt;
       }
       compare_fails (Tampered e) compared = record {
         viewed = viewed_then (whole offered step) compared.viewed;
         costs = costs_whole compared;
         ends = compare_names e compared.viewed compared.ends;
+        named = λ tells volume. compare_lies e compared tells volume compared.ends;
       }
 
       -- the volume at exit
@@ -412,14 +482,7 @@ module _ (g : Layout) (horizon edge : ℕ) (id : List ℕ) (old now mid : ViewSt
                   let own = holds_own (compared.ends.2 (named_later tells)) in
                   record {
                     holds = own;
-                    first = λ volume. record {
-                      node = node_of g next;
-                      level = next.number;
-                      passed = subst
-                          (λ (c : ℕ). PassedTo new.image (sought_in c g id) (root_at g) (node_of g next) next.number)
-                          (sym all.cells) (passed_to_on compared.viewed.image (passed_here offered step tells volume));
-                      bucket = bucket_later compared tells;
-                    };
+                    first = first_later compared tells;
                     alone = λ volume m t.
                         the_found_one
                         (hash_trail_on compared.viewed.image (trail_here offered step tells volume m t))
@@ -429,6 +492,7 @@ module _ (g : Layout) (horizon edge : ℕ) (id : List ℕ) (old now mid : ViewSt
                         (bucket_later compared tells);
                   },
             );
+            named = tt;
           }
 
       -- or another one, and the bucket is passed
@@ -473,6 +537,7 @@ none_at_end g horizon edge id old new place level walk = record {
   viewed = walk.viewed;
   costs = walk.costs;
   ends = (walk.ends.3, λ tells volume. (walk.ends.4 tells).none volume);
+  named = tt;
 }
 
 -- and where it is full
@@ -482,4 +547,5 @@ none_at_full g horizon edge id old new walk = record {
   viewed = walk.viewed;
   costs = walk.costs;
   ends = (walk.ends.0, λ tells volume. (walk.ends.1 tells).none volume);
+  named = tt;
 }

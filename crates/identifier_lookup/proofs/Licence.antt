@@ -25,8 +25,26 @@ use Rattle.hash_tree.specs.Levels.{AreBounds, IsLevelReached, IsNodeWithin, buck
 use Rattle.hash_tree.specs.declared.level.ChildCell.{ChildCell}
 use Rattle.hash_tree.specs.declared.level.Level.{Level}
 use Rattle.identifier_lookup.specs.Candidates.{IsFake}
-use Rattle.identifier_lookup.specs.Walks.{IsPathLicensed, IsWalkRule}
+use Rattle.identifier_lookup.specs.Walks.{IsOfSlot, IsPathLicensed, IsWalkRule}
 use Rattle.identifier_lookup.specs.declared.candidates.Named.{Named}
+
+-- what is no state of a slot is one of its cells, by the rule of that cell
+state_cell : {g : Layout} {before after : Image} {n : ℕ} (e : Evidence) → IsNoState g before after n e.rule e.cell
+    → IsOfSlot n e
+state_cell e (reserves_none rule cell none) = inl (rule, cell)
+state_cell e (ends_unreserved rule cell blank) = inr (inl (rule, cell))
+state_cell e (ends_wrongly start length rule cell reserves not_given_up not_stated) = inr (inl (rule, cell))
+state_cell e (ends_unstamped start length bytes journal rule cell reserves stated fits stamped lacks) =
+    inr (inl (rule, cell))
+state_cell e (done_unreserved rule cell blank unended) = inr (inr (inl (rule, cell)))
+state_cell e (done_unended start length rule cell reserves blank) = inr (inr (inl (rule, cell)))
+state_cell e (done_abandoned start length rule cell given_up) = inr (inr (inl (rule, cell)))
+state_cell e (done_wrongly start length bytes journal rule cell states other) = inr (inr (inl (rule, cell)))
+
+-- and so is what names its document
+pub slot_cell : {g : Layout} {n : ℕ} {old new : ViewState} {e : Evidence} → NamesDocument g n old new e → IsOfSlot n e
+slot_cell {e = e} (of_state out) = state_cell e out.seen
+slot_cell (of_document broken) = inr (inr (inr (broken.rule, broken.cell)))
 
 -- a half byte of a digest
 pub half_byte : (id : List ℕ) (v : ℕ) → nibble (sha256 id) v < 16

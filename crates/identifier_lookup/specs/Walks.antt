@@ -2,7 +2,7 @@
 use Rattle.std.specs.Prelude.{◌≡◌, ◌<◌, ◌+◌, ◌⊎◌, ℕ, List, Option, Some, None, Result, Ok, Err, IsTrue, ⊤}
 use Rattle.sha2.specs.Sha256.{sha256}
 use Rattle.cell_types.specs.Image.{Image}
-use Rattle.cell_types.specs.Layout.{Layout, root_at}
+use Rattle.cell_types.specs.Layout.{Layout, done_at, outcome_at, reserve_at, root_at}
 use Rattle.cell_types.specs.declared.record_cell.RecordCell.TheVariants.{Bucket}
 use Rattle.cell_types.specs.declared.refusal.Evidence.{Evidence}
 use Rattle.cell_types.specs.declared.refusal.Fault.{Fault}
@@ -13,7 +13,7 @@ use Rattle.volume_meaning.specs.Volumes.{Holds, IsVolume}
 use Rattle.volume_meaning.specs.HashPaths.{HashTrail, IsPassed, PassedTo, fingerprint_of, nibble}
 use Rattle.volume_meaning.specs.Keeping.{sought_in}
 use Rattle.tamper_rules.specs.Rules.{IsBroken, IsPlaceOf}
-use Rattle.tamper_rules.specs.declared.numbers.TheConstants.{BROKEN_DOCUMENT, DONE_CELL, OUTCOME_CELL, RESERVE_CELL}
+use Rattle.tamper_rules.specs.declared.numbers.TheConstants.{BROKEN_DOCUMENT, DONE_CELL, FAKE_BUCKET, LOST_CHILD, OUTCOME_CELL, RESERVE_CELL}
 use Rattle.worm_device.specs.Counts.{IsStill, Rose}
 use Rattle.worm_device.specs.Views.{ViewState, Viewed}
 use Rattle.document_store.specs.Looks.{HoldsIdentifier}
@@ -118,6 +118,38 @@ WalkFails g horizon edge old new (Tampered e) =
     IsPlaceOf g e.rule e.cell × (new.base.faults ≡ old.base.faults)
     × (IsTrue old.base.tells → IsPathLicensed g horizon edge old new e)
 
+-- the evidence is a cell of slot n: the one that its rule is about, which of a broken document is the commit cell
+abbrev pub IsOfSlot : ℕ → Evidence → Type 0
+IsOfSlot n e =
+    ((e.rule ≡ RESERVE_CELL) × (e.cell ≡ reserve_at n)) ⊎ ((e.rule ≡ OUTCOME_CELL) × (e.cell ≡ outcome_at n))
+    ⊎ ((e.rule ≡ DONE_CELL) × (e.cell ≡ done_at n)) ⊎ ((e.rule ≡ BROKEN_DOCUMENT) × (e.cell ≡ outcome_at n))
+
+-- The evidence lies on the path of the identifier: up to a node the path is passed, and it is that node's bucket there;
+-- or its child cell there, under a bucket that is passed, too; or a cell of the slot that this bucket names with the
+-- identifier's fingerprint.
+pub data LiesOnPath (g : Layout) (cells : ℕ) (image : Image) (id : List ℕ) (e : Evidence) : Type 0 where
+  at_bucket : (node level : ℕ) → IsPassedTo g cells image id node level → e.rule ≡ FAKE_BUCKET
+      → e.cell ≡ node + nibble (sha256 id) level → LiesOnPath g cells image id e
+  at_child : (node level : ℕ) → IsPassedTo g cells image id node level
+      → IsPassedBucket g cells image id (node + nibble (sha256 id) level) → level < 63 → e.rule ≡ LOST_CHILD
+      → e.cell ≡ node + 16 + nibble (sha256 id) level → LiesOnPath g cells image id e
+  in_slot : (n : ℕ) → IsFirstOnPath g cells image id n → IsOfSlot n e → LiesOnPath g cells image id e
+
+-- what a walk names lies on the path at exit, where cell 0 stated this volume at entry
+abbrev pub NamesOnPath : Layout → List ℕ → ViewState → ViewState → Fault → Type 0
+NamesOnPath g id old new Failed = ⊤
+NamesOnPath g id old new (Tampered e) =
+    IsTrue old.base.tells → IsVolume old.cells old.image g → LiesOnPath g new.cells new.image id e
+
+-- the same of an answer, which names nothing
+abbrev pub WalkNames : Layout → List ℕ → ViewState → ViewState → Result Walk Fault → Type 0
+WalkNames g id old new (Ok walked) = ⊤
+WalkNames g id old new (Err fault) = NamesOnPath g id old new fault
+
+abbrev pub LookUpNames : Layout → List ℕ → ViewState → ViewState → Result (Option ℕ) Fault → Type 0
+LookUpNames g id old new (Ok found) = ⊤
+LookUpNames g id old new (Err fault) = NamesOnPath g id old new fault
+
 -- How a walk may end, and why. What it says of the image holds at its exit.
 abbrev pub WalkEnds : Layout → ℕ → ℕ → List ℕ → ViewState → ViewState → Result Walk Fault → Type 0
 WalkEnds g horizon edge id old new (Ok (Found n)) =
@@ -135,6 +167,7 @@ pub record WalksPath (g : Layout) (horizon edge : ℕ) (id : List ℕ) (old new 
   pub viewed : Viewed old new
   pub costs : WalkCosts g id old new
   pub ends : WalkEnds g horizon edge id old new result
+  pub named : WalkNames g id old new result
 
 -- how a look-up may end, and why
 abbrev pub LookUpSlotEnds : Layout → ℕ → ℕ → List ℕ → ViewState → ViewState → Result (Option ℕ) Fault → Type 0
@@ -151,3 +184,4 @@ pub record LooksUpSlot (g : Layout) (horizon edge : ℕ) (id : List ℕ) (old ne
   pub viewed : Viewed old new
   pub costs : WalkCosts g id old new
   pub ends : LookUpSlotEnds g horizon edge id old new result
+  pub named : LookUpNames g id old new result
