@@ -5,4 +5,5 @@ pub mod HorizonSoFar
 pub mod LooksAsOne
 pub mod OneState
 pub mod RowSeen
+pub mod RowStates
 pub mod StampRead

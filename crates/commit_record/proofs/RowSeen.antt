@@ -1,11 +1,11 @@
 -- What a row of a slot's cells holds, as what was found in them.
-use Rattle.std.proofs.Common.{◌≡◌, ◌<◌, ◌≤◌, ◌+◌, arith, ℕ, List, length, Option, Some, Ok, subst}
+use Rattle.std.proofs.Common.{◌≡◌, ◌<◌, ◌≤◌, ◌+◌, arith, ℕ, List, length, Option, Some, subst}
 use Rattle.std.specs.Prelude.{IsTrue, slice_get}
 use Rattle.cell_types.specs.Image.{Image}
 use Rattle.cell_types.specs.Layout.{Layout, reserve_at, outcome_at, done_at, spare_at}
 use Rattle.cell_types.specs.declared.geometry.TheConstants.{STAMPED_VERSION}
 use Rattle.worm_device.specs.Looks.{IsOfCell, IsSeen}
-use Rattle.worm_device.specs.ReadRows.{IsFoundBetween, ViewReadsRow}
+use Rattle.worm_device.specs.ReadRows.{AreFoundBetween, IsFoundBetween}
 use Rattle.worm_device.specs.Views.{ViewState}
 use Rattle.worm_device.specs.declared.looks.Found.{Found}
 use Rattle.worm_device.specs.declared.looks.Found.TheVariants.{Blank, Record, Stray}
@@ -19,15 +19,17 @@ found_seen before after at (Record cell held) of between = (between, of)
 found_seen before after at (Stray cell) of between = (between, of)
 
 -- rows of a slot's cells, from its reserve cell on
-module _ (g : Layout) (n at : ℕ) (room row : List (Option (List ℕ))) (old new : ViewState)
-    (read : ViewReadsRow at room row old new (Ok tt)) (here : at ≡ reserve_at n) where
+module _ (g : Layout) (n at : ℕ) (row : List (Option (List ℕ))) (old new : ViewState)
+    (read : IsTrue old.base.tells → AreFoundBetween (length row) at row old.image new.image)
+    (here : at ≡ reserve_at n) where
   -- one of them
-  cell_seen : (place cell : ℕ) (found : Found) → cell ≡ reserve_at n + place → place < length row → IsOfCell cell found
+  pub cell_seen : (place cell : ℕ) (found : Found) → cell ≡ reserve_at n + place → place < length row
+      → IsOfCell cell found
       → slice_get row place ≡ Some (found_cell found) → IsTrue old.base.tells → IsSeen old.image new.image cell found
   cell_seen place cell found is less of holds tells =
       found_seen old.image new.image cell found of
       (subst (λ (k : ℕ). IsFoundBetween old.image new.image k (found_cell found)) (omega (arith, here, is))
-      (read.answer tells place (found_cell found) less holds))
+      (read tells place (found_cell found) less holds))
 
   pub stamp_seen : (spare : Found) → g.version ≡ STAMPED_VERSION → 4 ≤ length row → IsOfCell (spare_at n) spare
       → slice_get row 3 ≡ Some (found_cell spare) → IsTrue old.base.tells

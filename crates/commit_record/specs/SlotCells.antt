@@ -1,5 +1,5 @@
 -- What was found in the cells of a slot makes a state, whatever two images it was found between.
-use Rattle.std.specs.Prelude.{◌≡◌, ℕ, List, Option, Some, None, Result, Ok, Err, IsTrue, slice_get, ⊤}
+use Rattle.std.specs.Prelude.{◌≡◌, ℕ, List, length, Option, Some, None, Result, Ok, Err, IsTrue, slice_get, ⊤}
 use Rattle.cell_types.specs.Image.{Image}
 use Rattle.cell_types.specs.Layout.{Layout, reserve_at, outcome_at, done_at, spare_at}
 use Rattle.cell_types.specs.declared.geometry.TheConstants.{STAMPED_VERSION}
@@ -10,8 +10,10 @@ use Rattle.volume_meaning.specs.Slots.{Commits, Reserves}
 use Rattle.tamper_rules.specs.Rules.{IsPlaceOf}
 use Rattle.worm_device.specs.Counts.{Rose}
 use Rattle.worm_device.specs.Looks.{IsOfCell, IsSeen}
-use Rattle.worm_device.specs.Views.{ViewState}
+use Rattle.worm_device.specs.ReadRows.{AreFoundBetween}
+use Rattle.worm_device.specs.Views.{IsView, Viewed, ViewState}
 use Rattle.worm_device.specs.declared.device.Failed.{Failed}
+use Rattle.commit_record.specs.Stamps.{IsStampFound}
 use Rattle.commit_record.specs.States.{IsNoState, IsState, StateLiesInPool}
 use Rattle.worm_device.specs.declared.looks.Found.{Found}
 use Rattle.worm_device.specs.declared.looks.Found.TheVariants.{Blank, Record, Stray}
@@ -96,3 +98,31 @@ pub record RowEnds (g : Layout) (n : ℕ) (row : List (Option (List ℕ))) (stam
   pub outcome_is : slice_get row 1 ≡ Some (found_cell outcome)
   pub done_is : slice_get row 2 ≡ Some (found_cell done)
   pub ends : CellsEnd (SeenCells g n reserve outcome done stamp) g n result
+
+-- This is what the fourth place of a row says of slot n's spare cell: it is asked where documents are stamped, and there
+-- alone.
+abbrev pub IsSpareOfRow : Layout → ℕ → List (Option (List ℕ)) → Option Found → Type 0
+IsSpareOfRow g n row None = g.version ≡ STAMPED_VERSION → ⊥
+IsSpareOfRow g n row (Some spare) =
+    (g.version ≡ STAMPED_VERSION) × IsOfCell (spare_at n) spare × (slice_get row 3 ≡ Some (found_cell spare))
+
+-- what a row makes that begins with slot n's four cells: its state, or the first of them that is out of place
+pub record SlotOfRow (g : Layout) (n : ℕ) (row : List (Option (List ℕ))) (result : Result SlotState Evidence)
+    : Type 0 where
+  pub stamp : Option Found
+  pub spare : IsSpareOfRow g n row stamp
+  pub ends : RowEnds g n row stamp result
+
+-- the stamp in the fourth place of a row that begins with slot n's cells, or none
+pub record StampOfRow (n : ℕ) (row : List (Option (List ℕ))) (stamp : Option ℕ) : Type 0 where
+  pub spare : Found
+  pub of : IsOfCell (spare_at n) spare
+  pub is : slice_get row 3 ≡ Some (found_cell spare)
+  pub told : IsStampFound spare stamp
+
+-- the cells of slot n and those behind it, as many as the row has, were found to hold this between two states of a view
+pub record ReadsSlots (n : ℕ) (row : List (Option (List ℕ))) (old new : ViewState) : Type 0 where
+  pub viewed : Viewed old new
+  pub view : IsView new
+  pub faults : new.base.faults ≡ old.base.faults
+  pub found : IsTrue old.base.tells → AreFoundBetween (length row) (reserve_at n) row old.image new.image

@@ -38,8 +38,9 @@
 //! there may be free slots before it and taken ones behind it.
 //!
 //! Reads at most: `open` and `stamp_of` 1, `slot_state` 3 in one row, or 4 if documents are stamped, `horizon` and
-//! `end_of_log` 26, `parts` none. `end_of_log` also hands over the last reserve cell. `slot_state_of` goes
-//! on from such a cell: it saves one read, and never answers Unused. Nothing takes memory.
+//! `end_of_log` 26. `parts` reads none, nor do `slot_of_row` and `stamp_of_row`, which are handed a slot's cells.
+//! `end_of_log` also hands over the last reserve cell. `slot_state_of` goes on from such a cell: it saves one read, and
+//! never answers Unused. Nothing takes memory.
 //!
 //! Stands on `volume_meaning` and `tamper_rules`, which have the words, and on `worm_device`, which has the
 //! views. Begin with `slot.rt`. `specs/States.antt` says what its answers mean.
@@ -64,5 +65,6 @@ pub use partition::Parts;
 pub use reservation::Reservation;
 pub use slot::{SlotState, slot_state};
 pub use slot_parts::{document_cells, parts};
+pub use slot_row::{slot_of_row, stamp_of_row};
 pub use stamp_cell::stamp_of;
 pub use used_slot::slot_state_of;

@@ -1,15 +1,16 @@
-//! The state of a slot by its cells, which are neighbours and are read as one row.
+//! The state of a slot by its cells, which are neighbours and are read as one row, and its stamp.
 ghost use Rattle.std.specs.Prelude.{◌≡◌, ◌<◌, ◌≤◌, ◌+◌, IfOk, length};
 ghost use Rattle.cell_types.specs.declared.geometry.TheConstants.{STAMPED_VERSION};
 ghost use Rattle.worm_device.specs.Looks.{IsOfCell};
 ghost use Rattle.worm_device.specs.Views.{Viewed};
 ghost use Rattle.commit_record.specs.Partition.{HasRoom};
-ghost use Rattle.commit_record.specs.SlotCells.{RowEnds, found_cell};
+ghost use Rattle.commit_record.specs.SlotCells.{RowEnds, SlotOfRow, StampOfRow, found_cell};
 ghost use Rattle.commit_record.specs.States.{StateEnds};
 
 use crate::slot::SlotState;
 use crate::slot_cells::{found_there, state_of_cells};
-use cell_types::{Cell, Evidence, Fault, Geometry};
+use crate::stamp_cell::stamp_found;
+use cell_types::{Cell, Evidence, Fault, Geometry, STAMPED_VERSION};
 use worm_device::{Found, View};
 
 /// The state of a slot on a volume whose documents are not stamped. It reads three cells.
@@ -53,6 +54,36 @@ pub(crate) fn stamped_state<V: View>(
     let spare = row[3];
     let stamp = found_in(spare, spare_at);
     Ok(state_of_row(geometry, slot, &row, Some(stamp))?)
+}
+
+/// The state of a slot by its four cells, the first of a row that was read before, or the first of them that is out of
+/// place. Reads nothing.
+pub fn slot_of_row(
+    geometry: &Geometry,
+    slot: u32,
+    row: &[Option<Cell>],
+) -> Result<SlotState, Evidence>
+    requires slot { slot < geometry.now.slots }
+    requires four { 4 ≤ length row.now }
+    ensures { SlotOfRow geometry.now slot row.now result }
+{
+    if geometry.version() != STAMPED_VERSION {
+        return state_of_row(geometry, slot, row, None);
+    }
+    let spare = row[3];
+    let stamp = found_in(spare, geometry.spare_at(slot));
+    state_of_row(geometry, slot, row, Some(stamp))
+}
+
+/// The stamp in the last of a slot's four cells, the first of a row that was read before, in seconds, and `None` where it
+/// holds none. Reads nothing.
+pub fn stamp_of_row(geometry: &Geometry, slot: u32, row: &[Option<Cell>]) -> Option<u32>
+    requires slot { slot < geometry.now.slots }
+    requires four { 4 ≤ length row.now }
+    ensures { StampOfRow slot row.now result }
+{
+    let spare = row[3];
+    stamp_found(found_in(spare, geometry.spare_at(slot)))
 }
 
 /// The state that a row makes of a slot's reserve, outcome and done cell, or the first of them that is out of place.

@@ -40,7 +40,7 @@ pub fn stamp_of<V: View>(view: &mut V, volume: &Volume, slot: u32) -> Result<Opt
 }
 
 /// The stamp that was found in a cell, if it is one.
-fn stamp_found(found: Found) -> Option<u32>
+pub(crate) fn stamp_found(found: Found) -> Option<u32>
     ensures { IsStampFound found result }
 {
     match found {

@@ -1,10 +1,11 @@
 -- The stamps of the done slots, read one after another, and what that says of a device.
-use Rattle.std.proofs.Common.{◌≡◌, ◌<◌, ◌≤◌, ◌+◌, ◌⊎◌, ⊎_elim, inl, inr, ℕ, Option, None, Some, Result, Ok, Err, refl, ap, sym, subst, arith, ◌∙◌}
-use Rattle.std.specs.Prelude.{IsTrue}
+use Rattle.std.proofs.Common.{◌≡◌, ◌<◌, ◌≤◌, ◌+◌, ◌*◌, ◌⊎◌, ⊎_elim, inl, inr, ℕ, Option, None, Some, Result, Ok, Err, refl, ap, sym, subst, arith, ◌∙◌}
+use Rattle.std.specs.Prelude.{◌-◌, IsTrue, List, drop, length, take}
 use Rattle.std.proofs.lemmas.Bool.{cases_lt}
-use Rattle.std.proofs.lemmas.Option.{none-some}
-use Rattle.cell_types.specs.Layout.{Layout, spare_at}
-use Rattle.cell_types.specs.declared.record_cell.RecordCell.TheVariants.{Stamp}
+use Rattle.std.proofs.lemmas.List.{get_or-drop, length-drop, take_all}
+use Rattle.std.proofs.lemmas.Option.{get_or_from_slice_get, slice_get-get_or}
+use Rattle.cell_types.specs.Image.{Image}
+use Rattle.cell_types.specs.Layout.{Layout, done_at}
 use Rattle.cell_types.specs.declared.refusal.Evidence.{Evidence}
 use Rattle.cell_types.specs.declared.refusal.Fault.{Fault}
 use Rattle.cell_types.specs.declared.refusal.Fault.TheVariants as faults
@@ -14,20 +15,24 @@ use Rattle.cell_types.specs.Refusals.{refusal_of_fault}
 use Rattle.tamper_rules.specs.declared.numbers.TheConstants.{DONE_CELL, OUTCOME_CELL, RESERVE_CELL}
 use Rattle.volume_meaning.specs.Slots.{HasStamp, IsDoneSlot}
 use Rattle.volume_meaning.proofs.Extending.{done_slot_on, holds_on}
-use Rattle.volume_meaning.proofs.Holding.{one_record_holds}
+use Rattle.worm_device.specs.ReadRows.{IsFoundBetween}
 use Rattle.worm_device.specs.State.{DeviceState}
 use Rattle.worm_device.specs.Views.{Viewed, ViewState, seen_directly}
 use Rattle.worm_device.proofs.Counting.{still_second}
 use Rattle.worm_device.proofs.Elapsing.{called_self}
 use Rattle.worm_device.proofs.Resting.{rests_of, viewed_self, viewed_then}
-use Rattle.commit_record.specs.Stamps.{IsStampOrNone, ReadsStamp}
-use Rattle.document_store.specs.Looks.{LookFails, NamesDocument, PartEnds, of_document, of_state}
-use Rattle.document_store.specs.declared.part.Part.{Part}
+use Rattle.commit_record.proofs.Breaking.{no_holds}
+use Rattle.commit_record.proofs.RowStates.{row_stamp, row_stamp_was, row_state, row_tampered}
+use Rattle.commit_record.specs.SlotCells.{ReadsSlots, SlotOfRow, StampOfRow}
+use Rattle.commit_record.specs.States.{IsState, StateEnds}
+use Rattle.commit_record.specs.declared.slot.SlotState.{SlotState}
+use Rattle.commit_record.specs.declared.slot.SlotState.TheVariants.{Abandoned, Committed, Done, Reserved, Unused}
+use Rattle.document_store.specs.Looks.{of_state}
 use Rattle.identifier_lookup.specs.Walks.{WalkFails}
 use Rattle.identifier_lookup.proofs.Licence.{names_licensed, state_rule}
 use Rattle.recovery_engine.specs.declared.settling.Ready.{Ready}
 use Rattle.ingest_engine.specs.Indexing.{LooksPast, PastEnds, ReadsOnDevice}
-use Rattle.ingest_engine.specs.Stamps.{AddsStamp, AreUpTo, IsOneBelow, IsSlotRule, IsStampUpTo, NamesSlot, PastLast, ReadsStamps, GreatestStampEnds, StampsSoFar}
+use Rattle.ingest_engine.specs.Stamps.{AddsStamps, AreUpTo, IsOneBelow, IsSlotRule, IsStampUpTo, NamesSlot, PastLast, ReadsStamps, GreatestStampEnds, StampsSoFar}
 
 -- what is up to one is up to another that this one is up to
 up_to_then : (first mid last : Option ℕ) → IsStampUpTo first mid → IsStampUpTo mid last → IsStampUpTo first last
@@ -70,43 +75,54 @@ names_since : {old mid : ViewState} → Viewed old mid → (fault : Fault) → N
 names_since first faults.Failed names = tt
 names_since first (faults.Tampered e) names = λ tells. names (subst IsTrue (sym first.called.tells) tells)
 
--- evidence of a look at a slot is by a rule of its cells or of its document
-slot_rule : {g : Layout} {n : ℕ} {old new : ViewState} {e : Evidence} → NamesDocument g n old new e → IsSlotRule e.rule
-slot_rule {e = e} (of_state out) = with_state e.rule (state_rule out.seen) where
+-- evidence of a slot's cells is by a rule of them
+names_slot : (g : Layout) (n : ℕ) (old new : ViewState) (e : Evidence) → StateEnds g n old new (Err (faults.Tampered e))
+    → NamesSlot old (faults.Tampered e)
+names_slot g n old new e ends = λ tells. with_state e.rule (state_rule (ends.2 tells).seen) where
   with_state : (rule : ℕ) → (rule ≡ RESERVE_CELL) ⊎ (rule ≡ OUTCOME_CELL) ⊎ (rule ≡ DONE_CELL) → IsSlotRule rule
   with_state rule (inl reserve) = inl reserve
   with_state rule (inr (inl outcome)) = inr (inl outcome)
   with_state rule (inr (inr done)) = inr (inr (inl done))
-slot_rule (of_document broken) = inr (inr (inr broken.rule))
 
-names_slot : (g : Layout) (n : ℕ) (old new : ViewState) → (fault : Fault) → LookFails g n old new fault
-    → NamesSlot old fault
-names_slot g n old new faults.Failed fails = tt
-names_slot g n old new (faults.Tampered e) fails = λ tells. slot_rule (fails.2 tells)
+-- a slot in another state is not done
+undone : (g : Layout) (n : ℕ) (before after : Image) (state : SlotState) → IsState g before after n state
+    → ((start length bytes journal : ℕ) → state ≡ Done start length bytes journal → ⊥) → IsDoneSlot g before n → ⊥
+undone g n before after Unused is other was = no_holds before (done_at n) _ is.done was.done.done
+undone g n before after (Reserved start length) is other was = no_holds before (done_at n) _ is.done was.done.done
+undone g n before after (Abandoned start length) is other was = no_holds before (done_at n) _ is.done was.done.done
+undone g n before after (Committed start length bytes journal) is other was =
+    no_holds before (done_at n) _ is.done was.done.done
+undone g n before after (Done start length bytes journal) is other was = other start length bytes journal refl
 
--- a look at a slot that fails
-pub look_fails : (g : Layout) (n : ℕ) {old new : ViewState} → Viewed old new → (fault : Fault) → LookFails g n old new fault
-    → (horizon edge : ℕ) → WalkFails g horizon edge old new fault
-look_fails g n viewed faults.Failed fails horizon edge = fails
-look_fails g n {old} {new} viewed (faults.Tampered e) fails horizon edge =
-    (fails.0, fails.1, λ tells. names_licensed g horizon edge n old new e viewed (fails.2 tells))
+up_to_self : (one : Option ℕ) → IsStampUpTo one one
+up_to_self None = tt
+up_to_self (Some s) = omega arith
 
-module _ (g : Layout) (n : ℕ) (greatest : Option ℕ) where
-  up_to_self : (one : Option ℕ) → IsStampUpTo one one
-  up_to_self None = tt
-  up_to_self (Some s) = omega arith
-
-  -- the slot was not done
-  pub not_done : {old new : ViewState} → Viewed old new → PartEnds g n old new (Ok None)
-      → AddsStamp g n greatest old new (Ok greatest)
-  not_done {old} viewed ends = record {
+-- the stamps of some slots between two states of the view
+module _ (g : Layout) (greatest : Option ℕ) {old new : ViewState} (viewed : Viewed old new)
+    (faults : new.base.faults ≡ old.base.faults) where
+  -- of none
+  pub adds_none : (n : ℕ) → AddsStamps g n n greatest old new (Ok greatest)
+  adds_none n = record {
     viewed = viewed;
     ends = (
-      ends.0,
+      faults,
+      up_to_self greatest,
+      λ tells. (λ m seconds from below done stamp. absurd (omega (arith, from, below)), inl refl),
+    );
+  }
+
+  -- of one that was not done
+  pub not_done : (n : ℕ) → (IsTrue old.base.tells → IsDoneSlot g old.image n → ⊥)
+      → AddsStamps g n (n + 1) greatest old new (Ok greatest)
+  not_done n undone = record {
+    viewed = viewed;
+    ends = (
+      faults,
       up_to_self greatest,
       λ tells. (
         λ m seconds from below done stamp.
-            absurd ((ends.1 tells).undone (subst (λ (k : ℕ). IsDoneSlot g old.image k) (one_slot m from below) done)),
+            absurd (undone tells (subst (λ (k : ℕ). IsDoneSlot g old.image k) (one_slot m from below) done)),
         inl refl,
       ),
     );
@@ -115,72 +131,139 @@ module _ (g : Layout) (n : ℕ) (greatest : Option ℕ) where
       one_slot : (m : ℕ) → n ≤ m → m < n + 1 → m ≡ n
       one_slot m from below = omega (arith, from, below)
 
-  -- no look was to be had at it
-  pub unasked : {old new : ViewState} → Viewed old new → (fault : Fault) → PartEnds g n old new (Err fault)
-      → AddsStamp g n greatest old new (Err fault)
-  unasked viewed fault ends =
-      record { viewed = viewed; ends = (names_slot g n _ _ fault ends, look_fails g n viewed fault ends) }
-
-  module _ {old mid new : ViewState} (part : Part) (first : Viewed old mid) (is : PartEnds g n old mid (Ok (Some part)))
-      (stamp last : Option ℕ) (reads : ReadsStamp n mid new (Ok stamp)) (up : IsStampUpTo greatest last)
-      (up' : IsStampUpTo stamp last) (either : (last ≡ greatest) ⊎ (last ≡ stamp)) where
-    told : IsTrue old.base.tells → IsTrue mid.base.tells
-    told tells = subst IsTrue (sym first.called.tells) tells
-
-    done_now : IsTrue old.base.tells → IsDoneSlot g new.image n
-    done_now tells =
-        let there = is.3 tells in
-        let d : IsDoneSlot g mid.image n = record {
-          start = there.first;
-          length = there.reserved;
-          bytes = part.bytes;
-          journal = part.journal;
-          done = there.done;
-        } in
-        done_slot_on reads.viewed.image reads.viewed.image d
-
-    -- a stamp that the slot has is the one that was read
-    read_is : (stamp : Option ℕ) → IsStampOrNone new.image n stamp → (seconds : ℕ) → HasStamp new.image n seconds
-        → stamp ≡ Some seconds
-    read_is None none seconds has = absurd (none seconds has)
-    read_is (Some other) there seconds has =
-        ap Some (stamps other seconds (one_record_holds new.image (spare_at n) (Stamp other) (Stamp seconds) there has))
-      where
-        stamps : (a b : ℕ) → Stamp a ≡ Stamp b → a ≡ b
-        stamps a b e = cc
-
-    pub is_done : AddsStamp g n greatest old new (Ok last)
-    is_done = record {
-      viewed = viewed_then first reads.viewed;
+  -- of one that was
+  module _ (n : ℕ) (stamp last : Option ℕ) (up : IsStampUpTo greatest last) (up' : IsStampUpTo stamp last)
+      (either : (last ≡ greatest) ⊎ (last ≡ stamp)) where
+    pub is_done : (IsTrue old.base.tells → IsDoneSlot g new.image n)
+        → (IsTrue old.base.tells → (seconds : ℕ) → HasStamp old.image n seconds → stamp ≡ Some seconds)
+        → (IsTrue old.base.tells → (seconds : ℕ) → stamp ≡ Some seconds → HasStamp new.image n seconds)
+        → AddsStamps g n (n + 1) greatest old new (Ok last)
+    is_done done told stands = record {
+      viewed = viewed;
       ends = (
-        reads.ends.0 ∙ is.2,
+        faults,
         up,
         λ tells. (
-          λ m seconds from below done has.
+          λ m seconds from below was has.
               let same : m ≡ n = omega (arith, from, below) in
-              let here : HasStamp new.image n seconds =
-              subst (λ (k : ℕ). HasStamp new.image k seconds) same (holds_on reads.viewed.image (holds_on first.image has)) in
-              subst (λ (s : Option ℕ). IsStampUpTo s last) (read_is stamp (reads.ends.1 (told tells)) seconds here) up',
-          ⊎_elim inl (λ (other : last ≡ stamp). found_one tells last stamp other refl refl) either,
+              let here : HasStamp old.image n seconds = subst (λ (k : ℕ). HasStamp old.image k seconds) same has in
+              subst (λ (s : Option ℕ). IsStampUpTo s last) (told tells seconds here) up',
+          ⊎_elim inl (λ (other : last ≡ stamp). one tells last stamp other refl refl) either,
         ),
       );
     }
       where
-        none_up : (one last : Option ℕ) → last ≡ None → IsStampUpTo one last → last ≡ one
-        none_up None last is up = is
-        none_up (Some s) None is up = absurd up
-        none_up (Some s) (Some t) is up = absurd (none-some t (sym is))
+        one : IsTrue old.base.tells → (l s : Option ℕ) → l ≡ s → l ≡ last → s ≡ stamp
+            → (last ≡ greatest) ⊎ IsOneBelow g new.image (n + 1) last
+        one tells l None same is_last is_stamp =
+            inr (subst (λ (o : Option ℕ). IsOneBelow g new.image (n + 1) o) (sym same ∙ is_last) tt)
+        one tells l (Some seconds) same is_last is_stamp =
+            inr (subst (λ (o : Option ℕ). IsOneBelow g new.image (n + 1) o) (sym same ∙ is_last) (record {
+              slot = n;
+              below = omega arith;
+              done = done tells;
+              stamp = stands tells seconds (sym is_stamp);
+            }))
 
-        found_one : IsTrue old.base.tells → (l s : Option ℕ) → l ≡ s → l ≡ last → s ≡ stamp
-            → (last ≡ greatest)
-            ⊎ ((seconds : ℕ) × (last ≡ Some seconds) × IsDoneSlot g new.image n × HasStamp new.image n seconds)
-        found_one tells l None same is_last is_stamp = inl (none_up greatest last (sym is_last ∙ same) up)
-        found_one tells l (Some seconds) same is_last is_stamp = inr (
-          seconds,
-          sym is_last ∙ same,
-          done_now tells,
-          subst (λ (s : Option ℕ). IsStampOrNone new.image n s) (sym is_stamp) (reads.ends.1 (told tells)),
-        )
+-- one that is below stays below
+below_on : (g : Layout) (image : Image) {n more : ℕ} (last : Option ℕ) → IsOneBelow g image n last → n ≤ more
+    → IsOneBelow g image more last
+below_on g image None there before = tt
+below_on g image (Some seconds) there before = record {
+  slot = there.slot;
+  below = omega (arith, there.below, before);
+  done = there.done;
+  stamp = there.stamp;
+}
+
+-- and further ones before them
+pub adds_more : (g : Layout) (slot n : ℕ) (greatest later last : Option ℕ) {old new : ViewState} → slot + 1 ≤ n
+    → AddsStamps g (slot + 1) n greatest old new (Ok later) → AddsStamps g slot (slot + 1) later old new (Ok last)
+    → AddsStamps g slot n greatest old new (Ok last)
+adds_more g slot n greatest later last {old} {new} before behind one = record {
+  viewed = one.viewed;
+  ends = (
+    one.ends.0,
+    up_to_then greatest later last behind.ends.1 one.ends.1,
+    λ tells. (
+      λ m seconds from below done has. ⊎_elim
+          (λ (same : m < slot + 1). (one.ends.2 tells).0 m seconds from same done has)
+          (λ (past : slot + 1 ≤ m).
+          up_to_then (Some seconds) later last ((behind.ends.2 tells).0 m seconds past below done has) one.ends.1)
+          (cases_lt m (slot + 1)),
+      ⊎_elim
+          (λ (same : last ≡ later).
+          ⊎_elim (λ (older : later ≡ greatest). inl (same ∙ older))
+          (λ (there : IsOneBelow g new.image n later).
+          inr (subst (λ (o : Option ℕ). IsOneBelow g new.image n o) (sym same) there))
+          (behind.ends.2 tells).1)
+          (λ (there : IsOneBelow g new.image (slot + 1) last). inr (below_on g new.image last there before))
+          (one.ends.2 tells).1,
+    ),
+  );
+}
+
+-- a slot whose cells were read in a row
+module _ (g : Layout) (n : ℕ) (row : List (Option (List ℕ))) (greatest : Option ℕ) (less : n < g.slots)
+    (four : 4 ≤ length row) (old new : ViewState) (reads : ReadsSlots n row old new) where
+  -- they are no state
+  pub slot_tampered : (e : Evidence) → SlotOfRow g n row (Err e)
+      → AddsStamps g n (n + 1) greatest old new (Err (faults.Tampered e))
+  slot_tampered e is =
+      let ends = row_tampered g n row reads four less e is in
+      record {
+        viewed = reads.viewed;
+        ends = (
+          names_slot g n old new e ends,
+          λ horizon edge. (
+            ends.0,
+            ends.1,
+            λ tells. names_licensed g horizon edge n old new e reads.viewed (of_state (ends.2 tells)),
+          ),
+        );
+      }
+
+  -- the state is another
+  pub slot_undone : (state : SlotState) → SlotOfRow g n row (Ok state)
+      → ((start length bytes journal : ℕ) → state ≡ Done start length bytes journal → ⊥)
+      → AddsStamps g n (n + 1) greatest old new (Ok greatest)
+  slot_undone state is other =
+      let ends = row_state g n row reads four state is in
+      not_done g greatest reads.viewed reads.faults n
+      (λ tells. undone g n old.image new.image state (ends.2 tells) other)
+
+  -- it is done
+  pub slot_done : (start length bytes journal : ℕ) → SlotOfRow g n row (Ok (Done start length bytes journal))
+      → (stamp last : Option ℕ) → StampOfRow n row stamp → IsStampUpTo greatest last → IsStampUpTo stamp last
+      → (last ≡ greatest) ⊎ (last ≡ stamp) → AddsStamps g n (n + 1) greatest old new (Ok last)
+  slot_done start length bytes journal is stamp last of up up' either =
+      let ends = row_state g n row reads four (Done start length bytes journal) is in
+      is_done g greatest reads.viewed reads.faults n stamp last up up' either
+      (λ tells. record { start = start; length = length; bytes = bytes; journal = journal; done = ends.2 tells })
+      (row_stamp_was g n row reads four stamp of) (row_stamp g n row reads four stamp of)
+
+-- the cells of a slot and those behind it, of a row that begins with an earlier one's
+pub slots_from : (first place : ℕ) (row : List (Option (List ℕ))) {old new : ViewState} → 4 * place ≤ length row
+    → ReadsSlots first row old new
+    → ReadsSlots (first + place) (take (length row - 4 * place) (drop (4 * place) row)) old new
+slots_from first place row {old} {new} inside reads =
+    subst (λ (cells : List (Option (List ℕ))). ReadsSlots (first + place) cells old new)
+    (sym (take_all (length row - 4 * place) behind (omega (arith, length-drop (4 * place) row))))
+    (record {
+      viewed = reads.viewed;
+      view = reads.view;
+      faults = reads.faults;
+      found = λ tells at held less is.
+          let within : 4 * place + at < length row = omega (arith, less, length-drop (4 * place) row, inside) in
+          subst (λ (cell : ℕ). IsFoundBetween old.image new.image cell held) (omega arith)
+          (reads.found tells (4 * place + at) held within
+          (slice_get-get_or row (4 * place + at) held within
+          ∙ ap (λ (v : Option (List ℕ)). Some v) (sym (get_or-drop (4 * place) row at held)
+          ∙ get_or_from_slice_get behind at held held is)));
+    })
+  where
+    behind : List (Option (List ℕ))
+    behind = drop (4 * place) row
 
 module _ (g : Layout) (n : ℕ) where
   -- none was read yet
@@ -192,34 +275,33 @@ module _ (g : Layout) (n : ℕ) where
     one = λ tells. tt;
   }
 
-  module _ {from slot : ℕ} {greatest : Option ℕ} {old now : ViewState} (so : StampsSoFar g from n greatest old now)
-      (next_is : slot + 1 ≡ from) (below_n : slot < n) {next : ViewState} where
-    pub one_more : (last : Option ℕ) → AddsStamp g slot greatest now next (Ok last) → StampsSoFar g slot n last old next
-    one_more last adds = record {
+  module _ {from first : ℕ} {greatest : Option ℕ} {old now : ViewState} (so : StampsSoFar g from n greatest old now)
+      (inside : from ≤ n) {next : ViewState} where
+    pub some_more : (last : Option ℕ) → AddsStamps g first from greatest now next (Ok last)
+        → StampsSoFar g first n last old next
+    some_more last adds = record {
       viewed = viewed_then so.viewed adds.viewed;
       faults = adds.ends.0 ∙ so.faults;
       most = λ tells m seconds past below done has. ⊎_elim
-          (λ (same : m < slot + 1).
+          (λ (same : m < from).
           (adds.ends.2 (told tells)).0 m seconds past same (done_slot_on so.viewed.image so.viewed.image done)
           (holds_on so.viewed.image has))
-          (λ (later : slot + 1 ≤ m).
-          up_to_then (Some seconds) greatest last
-          (so.most tells m seconds (omega (arith, later, next_is)) below done has) adds.ends.1)
-          (cases_lt m (slot + 1));
+          (λ (later : from ≤ m).
+          up_to_then (Some seconds) greatest last (so.most tells m seconds later below done has) adds.ends.1)
+          (cases_lt m from);
       one = λ tells. ⊎_elim
           (λ (same : last ≡ greatest).
           subst (λ (l : Option ℕ). IsOneBelow g next.image n l) (sym same)
           (one_on g n greatest adds.viewed (so.one tells)))
-          (λ (new : (seconds : ℕ) × (last ≡ Some seconds) × IsDoneSlot g next.image slot × HasStamp next.image slot seconds).
-          subst (λ (l : Option ℕ). IsOneBelow g next.image n l) (sym new.1)
-          (record { slot = slot; below = below_n; done = new.2; stamp = new.3 }))
+          (λ (there : IsOneBelow g next.image from last). below_on g next.image last there inside)
           (adds.ends.2 (told tells)).1;
     }
       where
         told : IsTrue old.base.tells → IsTrue now.base.tells
         told tells = subst IsTrue (sym so.viewed.called.tells) tells
 
-    pub stopped : (fault : Fault) → AddsStamp g slot greatest now next (Err fault) → ReadsStamps g n old next (Err fault)
+    pub stopped : (fault : Fault) → AddsStamps g first from greatest now next (Err fault)
+        → ReadsStamps g n old next (Err fault)
     stopped fault adds = record {
       viewed = viewed_then so.viewed adds.viewed;
       ends = (

@@ -1,5 +1,5 @@
 -- Which stamps the done slots of a volume have, as a reader of the log answers it, and whether another is past them.
-use Rattle.std.specs.Prelude.{◌≡◌, ◌<◌, ◌≤◌, ◌+◌, ◌⊎◌, ℕ, Option, None, Some, Result, Ok, Err, IsTrue, ⊤}
+use Rattle.std.specs.Prelude.{◌≡◌, ◌<◌, ◌≤◌, ◌⊎◌, ℕ, Option, None, Some, Result, Ok, Err, IsTrue, ⊤}
 use Rattle.cell_types.specs.Image.{Image}
 use Rattle.cell_types.specs.Layout.{Layout}
 use Rattle.cell_types.specs.declared.refusal.Fault.{Fault}
@@ -69,19 +69,19 @@ pub record ReadsStamps (g : Layout) (n : ℕ) (old new : ViewState) (result : Re
   pub viewed : Viewed old new
   pub ends : GreatestStampEnds g n old new result
 
--- how reading one more, that of slot n, may end
-abbrev pub AddStampEnds : Layout → ℕ → Option ℕ → ViewState → ViewState → Result (Option ℕ) Fault → Type 0
-AddStampEnds g n greatest old new (Ok last) =
+-- How reading those from one on, and below n, may end: what comes is the latest of them and of one that was known before.
+abbrev pub AddStampsEnds : Layout → ℕ → ℕ → Option ℕ → ViewState → ViewState → Result (Option ℕ) Fault → Type 0
+AddStampsEnds g from n greatest old new (Ok last) =
     (new.base.faults ≡ old.base.faults) × IsStampUpTo greatest last
-    × (IsTrue old.base.tells → AreUpTo g old.image n (n + 1) last
-    × ((last ≡ greatest) ⊎ ((seconds : ℕ) × (last ≡ Some seconds) × IsDoneSlot g new.image n × HasStamp new.image n seconds)))
-AddStampEnds g n greatest old new (Err fault) =
+    × (IsTrue old.base.tells
+    → AreUpTo g old.image from n last × ((last ≡ greatest) ⊎ IsOneBelow g new.image n last))
+AddStampsEnds g from n greatest old new (Err fault) =
     NamesSlot old fault × ((horizon edge : ℕ) → WalkFails g horizon edge old new fault)
 
-pub record AddsStamp (g : Layout) (n : ℕ) (greatest : Option ℕ) (old new : ViewState) (result : Result (Option ℕ) Fault)
+pub record AddsStamps (g : Layout) (from n : ℕ) (greatest : Option ℕ) (old new : ViewState) (result : Result (Option ℕ) Fault)
     : Type 0 where
   pub viewed : Viewed old new
-  pub ends : AddStampEnds g n greatest old new result
+  pub ends : AddStampsEnds g from n greatest old new result
 
 -- the stamps of the done slots from one on, and below n, were read
 pub record StampsSoFar (g : Layout) (from n : ℕ) (greatest : Option ℕ) (old now : ViewState) : Type 0 where

@@ -1,14 +1,22 @@
 //! Whether the stamp of a document is past those of the volume.
-ghost use Rattle.std.specs.Prelude.{◌≡◌, ◌<◌, ◌≤◌, ◌⊎◌};
+ghost use Rattle.std.specs.Prelude.{◌≡◌, ◌<◌, ◌≤◌, ◌+◌, ◌*◌, ◌⊎◌, length};
+ghost use Rattle.worm_device.specs.Views.{ViewState};
+ghost use Rattle.commit_record.specs.SlotCells.{ReadsSlots};
 ghost use Rattle.recovery_engine.specs.Settling.{LiesInBounds};
 ghost use Rattle.ingest_engine.specs.Indexing.{LooksPast, ReadsOnDevice};
-ghost use Rattle.ingest_engine.specs.Stamps.{AddsStamp, IsStampUpTo, PastLast, ReadsStamps};
+ghost use Rattle.ingest_engine.specs.Stamps.{AddsStamps, IsStampUpTo, PastLast, ReadsStamps};
+ghost use Rattle.ingest_engine.specs.declared.stamps.TheConstants.{ROW_SLOTS};
 
-use cell_types::{Fault, Refusal, Volume};
-use commit_record::stamp_of;
-use document_store::slot_part;
+use cell_types::{Cell, Fault, Geometry, Refusal, Volume};
+use commit_record::{SlotState, slot_of_row, stamp_of_row};
 use recovery_engine::Ready;
 use worm_device::{Device, Direct, View};
+
+/// How many slots are read at once, at most.
+const ROW_SLOTS: u32 = 64;
+
+/// How many cells they have.
+const ROW_CELLS: u32 = 4 * ROW_SLOTS;
 
 /// That the stamp, if one is given, is past that of each done slot below the horizon. The slots are read from the greatest
 /// down, where a stamp is given alone.
@@ -41,34 +49,87 @@ fn last_stamp<D: Device>(device: &mut D, ready: &Ready) -> Result<Option<u32>, F
     greatest_stamp(&mut Direct::new(device), &ready.volume, ready.horizon)
 }
 
-/// The greatest stamp of a done slot below this one, if there is one. The slots are read from the greatest down.
+/// The greatest stamp of a done slot below this one, if there is one. The slots are read from the greatest down, so many at
+/// once as a row has room for.
 fn greatest_stamp<V: View>(view: &mut V, volume: &Volume, below: u32) -> Result<Option<u32>, Fault>
     requires below { below ≤ volume.now.geometry.slots }
     requires size { volume.now.geometry.cells ≤ (V.seen view.old).cells }
     ensures { ReadsStamps volume.now.geometry below (V.seen view.old) (V.seen view.new) result }
 {
     let mut greatest = None;
-    for back in 0..below {
-        greatest = with_slot(view, volume, below - 1 - back, greatest)?;
+    let mut left = below;
+    while left > 0 {
+        let count = left.min(ROW_SLOTS);
+        greatest = with_slots(view, &volume.geometry, left - count, count, greatest)?;
+        left -= count;
     }
     Ok(greatest)
 }
 
-/// The later one of a stamp and that of a slot, if the slot is done.
-fn with_slot<V: View>(
+/// The latest of a stamp and those of the done slots among so many, from the first on. Their cells are read as one row.
+fn with_slots<V: View>(
     view: &mut V,
-    volume: &Volume,
-    slot: u32,
+    geometry: &Geometry,
+    first: u32,
+    count: u32,
     greatest: Option<u32>,
 ) -> Result<Option<u32>, Fault>
-    requires slot { slot < volume.now.geometry.slots }
-    requires size { volume.now.geometry.cells ≤ (V.seen view.old).cells }
-    ensures { AddsStamp volume.now.geometry slot greatest (V.seen view.old) (V.seen view.new) result }
+    requires some { 1 ≤ count }
+    requires few { count ≤ ROW_SLOTS }
+    requires slots { first + count ≤ geometry.now.slots }
+    requires size { geometry.now.cells ≤ (V.seen view.old).cells }
+    ensures { AddsStamps geometry.now first (first + count) greatest (V.seen view.old) (V.seen view.new) result }
 {
-    let Some(_part) = slot_part(view, volume, slot)? else {
+    // Known of a layout once it is asked for: that the numbers of its slots have 32 bits, and that the last of these cells
+    // is one of the device, too.
+    let _slots = geometry.slots();
+    let _last = geometry.spare_at(first + count - 1);
+    let mut cells = [None; ROW_CELLS as usize];
+    let row = &mut cells[..4 * count as usize];
+    view.read_row(geometry.reserve_at(first), row)?;
+    latest_in_row(geometry, first, count, row, greatest)
+}
+
+/// The latest of a stamp and those of the done slots of a row that was read, which begins with the cells of the first.
+fn latest_in_row(
+    geometry: &Geometry,
+    first: u32,
+    count: u32,
+    row: &[Option<Cell>],
+    greatest: Option<u32>,
+) -> Result<Option<u32>, Fault>
+    requires few { count ≤ ROW_SLOTS }
+    requires slots { first + count ≤ geometry.now.slots }
+    requires cells { length row.now ≡ 4 * count }
+    ensures { (old new : ViewState) → ReadsSlots first row.now old new
+        → AddsStamps geometry.now first (first + count) greatest old new result }
+{
+    // Known of a layout once it is asked for.
+    let _slots = geometry.slots();
+    let mut last = greatest;
+    for back in 0..count {
+        let place = count - 1 - back;
+        last = with_slot(geometry, first + place, &row[4 * place as usize..], last)?;
+    }
+    Ok(last)
+}
+
+/// The later one of a stamp and that of a slot, if the slot is done. Its cells are the first of a row that was read.
+fn with_slot(
+    geometry: &Geometry,
+    slot: u32,
+    row: &[Option<Cell>],
+    greatest: Option<u32>,
+) -> Result<Option<u32>, Fault>
+    requires slot { slot < geometry.now.slots }
+    requires four { 4 ≤ length row.now }
+    ensures { (old new : ViewState) → ReadsSlots slot row.now old new
+        → AddsStamps geometry.now slot (slot + 1) greatest old new result }
+{
+    let SlotState::Done { .. } = slot_of_row(geometry, slot, row)? else {
         return Ok(greatest);
     };
-    let stamp = stamp_of(view, volume, slot)?;
+    let stamp = stamp_of_row(geometry, slot, row);
     Ok(later_of(greatest, stamp))
 }
 

@@ -1,13 +1,14 @@
-//! Cell 0, the state of a slot and the end of the log.
-ghost use Rattle.std.specs.Prelude.{◌<◌, ◌≤◌, ◌+◌, IfOk};
+//! Cell 0, the state of a slot, also by a row that was read, and the end of the log.
+ghost use Rattle.std.specs.Prelude.{◌<◌, ◌≤◌, ◌+◌, IfOk, length};
 ghost use Rattle.worm_device.specs.Views.{Viewed};
 ghost use Rattle.commit_record.specs.LogEnds.{LogEndEnds};
 ghost use Rattle.commit_record.specs.Opening.{OpenEnds};
 ghost use Rattle.commit_record.specs.Partition.{HasRoom};
+ghost use Rattle.commit_record.specs.SlotCells.{SlotOfRow};
 ghost use Rattle.commit_record.specs.States.{StateEnds, stamp_cells};
 
-use cell_types::{Fault, Volume};
-use commit_record::{LogEnd, OpenRefusal, SlotState, end_of_log, open, slot_state};
+use cell_types::{Cell, Evidence, Fault, Geometry, Volume};
+use commit_record::{LogEnd, OpenRefusal, SlotState, end_of_log, open, slot_of_row, slot_state};
 use worm_device::{Failed, View};
 
 /// `open`.
@@ -35,6 +36,19 @@ pub fn slot_state_again<V: View>(
     ensures ends { StateEnds volume.now.geometry slot (V.seen view.old) (V.seen view.new) result }
 {
     slot_state(view, volume, slot)
+}
+
+/// `slot_of_row`.
+pub fn slot_of_row_again(
+    geometry: &Geometry,
+    slot: u32,
+    row: &[Option<Cell>],
+) -> Result<SlotState, Evidence>
+    requires slot { slot < geometry.now.slots }
+    requires four { 4 ≤ length row.now }
+    ensures { SlotOfRow geometry.now slot row.now result }
+{
+    slot_of_row(geometry, slot, row)
 }
 
 /// `end_of_log`.

@@ -10,30 +10,40 @@ use Rattle.commit_record.proofs.slot_row.stamped_state.Goals as goal
 -- the cells are a state
 pub returns-clause-ends : goal.returns-clause-ends
 returns-clause-ends g c =
+    let old = g.V.View.seen c.args.view.now in
+    let new = g.V.View.seen c.read_row.new.self in
+    let read = c.in_ok-read_row.ensures in
     let row = c.state_of_row.ensures in
-    state_seen c.args.geometry.now c.args.slot (g.V.View.seen c.args.view.now) (g.V.View.seen c.read_row.new.self) row.reserve row.outcome
-    row.done (Some c.found_in-stamp.result) c.in_ok-read_row.ensures.viewed c.in_ok-read_row.ensures.cause
-    (row_seen c.args.geometry.now c.args.slot _ _ _ _ _ c.in_ok-read_row.ensures c.reserve_at.ensures.at row.reserve row.outcome row.done (Some c.found_in-stamp.result)
-    (omega (arith, c.in_ok-read_row.ensures.size)) row.reserve_of row.outcome_of row.done_of row.reserve_is row.outcome_is row.done_is
-    (stamp_seen c.args.geometry.now c.args.slot _ _ _ _ _ c.in_ok-read_row.ensures c.reserve_at.ensures.at c.found_in-stamp.result
-    c.requires.stamped (omega (arith, c.in_ok-read_row.ensures.size)) (rw c.spare_at-spare_at.ensures.at at c.found_in-stamp.ensures.of)
-    (slice_get-get_or c.read_row.new.cells 3 _ (omega (arith, c.in_ok-read_row.ensures.size))
+    state_seen c.args.geometry.now c.args.slot old new row.reserve row.outcome row.done
+    (Some c.found_in-stamp.result) read.viewed read.cause
+    (row_seen c.args.geometry.now c.args.slot c.reserve_at.result c.read_row.new.cells old new read.answer
+    c.reserve_at.ensures.at row.reserve row.outcome row.done (Some c.found_in-stamp.result)
+    (omega (arith, read.size)) row.reserve_of row.outcome_of row.done_of row.reserve_is row.outcome_is row.done_is
+    (stamp_seen c.args.geometry.now c.args.slot c.reserve_at.result c.read_row.new.cells old new read.answer
+    c.reserve_at.ensures.at c.found_in-stamp.result
+    c.requires.stamped (omega (arith, read.size)) (rw c.spare_at-spare_at.ensures.at at c.found_in-stamp.ensures.of)
+    (slice_get-get_or c.read_row.new.cells 3 _ (omega (arith, read.size))
     ∙ ap (λ (v : Option (List ℕ)). Some v) (sym c.found_in-stamp.ensures.cell))))
     c.in_ok-state_of_row.field-0 (rw c.in_ok-state_of_row.was at row.ends)
 
 -- or one of them is out of place
 pub returns-in_err-state_of_row-clause-ends : goal.returns-in_err-state_of_row-clause-ends
 returns-in_err-state_of_row-clause-ends g c =
+    let old = g.V.View.seen c.args.view.now in
+    let new = g.V.View.seen c.read_row.new.self in
+    let read = c.in_ok-read_row.ensures in
     let row = c.state_of_row.ensures in
     rw (handed c.from_residual-in_err-state_of_row.result (Tampered c.in_err-state_of_row.field-0.0)
     c.from_residual-in_err-state_of_row.ensures.1)
-    (tampered_seen c.args.geometry.now c.args.slot (g.V.View.seen c.args.view.now) (g.V.View.seen c.read_row.new.self) row.reserve row.outcome
-    row.done (Some c.found_in-stamp.result) c.in_ok-read_row.ensures.viewed c.in_ok-read_row.ensures.cause
-    (row_seen c.args.geometry.now c.args.slot _ _ _ _ _ c.in_ok-read_row.ensures c.reserve_at.ensures.at row.reserve row.outcome row.done (Some c.found_in-stamp.result)
-    (omega (arith, c.in_ok-read_row.ensures.size)) row.reserve_of row.outcome_of row.done_of row.reserve_is row.outcome_is row.done_is
-    (stamp_seen c.args.geometry.now c.args.slot _ _ _ _ _ c.in_ok-read_row.ensures c.reserve_at.ensures.at c.found_in-stamp.result
-    c.requires.stamped (omega (arith, c.in_ok-read_row.ensures.size)) (rw c.spare_at-spare_at.ensures.at at c.found_in-stamp.ensures.of)
-    (slice_get-get_or c.read_row.new.cells 3 _ (omega (arith, c.in_ok-read_row.ensures.size))
+    (tampered_seen c.args.geometry.now c.args.slot old new row.reserve row.outcome row.done
+    (Some c.found_in-stamp.result) read.viewed read.cause
+    (row_seen c.args.geometry.now c.args.slot c.reserve_at.result c.read_row.new.cells old new read.answer
+    c.reserve_at.ensures.at row.reserve row.outcome row.done (Some c.found_in-stamp.result)
+    (omega (arith, read.size)) row.reserve_of row.outcome_of row.done_of row.reserve_is row.outcome_is row.done_is
+    (stamp_seen c.args.geometry.now c.args.slot c.reserve_at.result c.read_row.new.cells old new read.answer
+    c.reserve_at.ensures.at c.found_in-stamp.result
+    c.requires.stamped (omega (arith, read.size)) (rw c.spare_at-spare_at.ensures.at at c.found_in-stamp.ensures.of)
+    (slice_get-get_or c.read_row.new.cells 3 _ (omega (arith, read.size))
     ∙ ap (λ (v : Option (List ℕ)). Some v) (sym c.found_in-stamp.ensures.cell))))
     c.requires.slot (g.met.V.View.proper c.read_row.new.self) c.in_err-state_of_row.field-0.0
     (rw c.in_err-state_of_row.was at row.ends))
