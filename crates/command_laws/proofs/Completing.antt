@@ -36,7 +36,7 @@ use Rattle.plan_writer.proofs.PutFrom.{volume_2}
 use Rattle.ingest_engine.specs.Formats.{FormatEnds}
 use Rattle.jump_insertion.specs.Evidence.{IsPastStamps}
 use Rattle.ingest_plan.specs.Planning.{IsLater}
-use Rattle.ingest_engine.specs.Ingesting.{HasFullPath, HasLaterStamp, HasNoRoom, HasNoSlot, HasFreeSlot, IngestEnds, IsIngestEvidence, IsIdentifierTaken, IsTooMany, CheckStampEnds, TakesNoSuchStamp, among_stamps, by_plan, by_settling, in_index}
+use Rattle.ingest_engine.specs.Ingesting.{HasFullPath, HasLaterStamp, HasNoRoom, HasNoSlot, HasFreeSlot, IngestEnds, IsIngestEvidence, IsIdentifierTaken, IsTooMany, CheckStampEnds, TakesNoSuchStamp, among_stamps, behind_path, by_plan, by_settling, on_path}
 use Rattle.ingest_engine.specs.Stamps.{IsStampBelow}
 use Rattle.ingest_engine.proofs.Named.{is_horizon, slot_still}
 use Rattle.ingest_engine.proofs.CrashedIngests.{ready_layout, settled_unused}
@@ -191,7 +191,8 @@ module _ {id : List ℕ} {stamp : Option ℕ} {body : List ℕ} {g : Layout} {sl
       begins.alone begins.steady
   untouched e (by_plan way) = behind_unbroken way.ready (slot_still way begins.alone) way.found.licensed
   untouched e (among_stamps r slot given rule licensed) = behind_unbroken r slot licensed
-  untouched e (in_index r slot past rule licensed) = behind_unbroken r slot licensed
+  untouched e (on_path r slot past rule lies licensed) = behind_unbroken r slot licensed
+  untouched e (behind_path r slot past growth licensed) = behind_unbroken r slot licensed
 
   volume_now : (called : Called old new) → IsVolume new.cells new.image g
   volume_now called = subst (λ (c : ℕ). IsVolume c new.image g) (sym called.cells)

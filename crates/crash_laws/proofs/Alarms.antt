@@ -5,7 +5,7 @@ use Rattle.worm_device.specs.Counts.{IsStill}
 use Rattle.worm_device.specs.State.{DeviceState, IsDevice}
 use Rattle.commit_record.specs.Licences.{IsLicensed}
 use Rattle.recovery_engine.specs.declared.settling.Ready.{Ready}
-use Rattle.ingest_engine.specs.Ingesting.{HasFreeSlot, IsIngestEvidence, among_stamps, by_plan, by_settling, in_index}
+use Rattle.ingest_engine.specs.Ingesting.{HasFreeSlot, IsIngestEvidence, among_stamps, behind_path, by_plan, by_settling, on_path}
 use Rattle.ingest_engine.proofs.Named.{slot_still}
 use Rattle.crash_laws.specs.SettlingSteadiness.{IsSteady}
 use Rattle.crash_laws.proofs.SettlingAlarms.{looked_unbroken, settling_named}
@@ -20,4 +20,5 @@ module _ (old new : DeviceState) (e : Evidence) (device : IsDevice old) (device_
   none_named (by_settling settles found) = settling_named old new e device tells settles still steady
   none_named (by_plan way) = none_behind way.ready (slot_still way still) way.found.licensed
   none_named (among_stamps r slot given rule licensed) = none_behind r slot licensed
-  none_named (in_index r slot past rule licensed) = none_behind r slot licensed
+  none_named (on_path r slot past rule lies licensed) = none_behind r slot licensed
+  none_named (behind_path r slot past growth licensed) = none_behind r slot licensed

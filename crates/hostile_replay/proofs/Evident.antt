@@ -8,7 +8,7 @@ use Rattle.worm_device.specs.Counts.{IsStill, Rose}
 use Rattle.worm_device.specs.State.{DeviceState}
 use Rattle.worm_memory.specs.Memory.{Memory, device_of}
 use Rattle.commit_record.specs.Licences.{IsLicensed}
-use Rattle.ingest_engine.specs.Ingesting.{IsIngestEvidence, among_stamps, by_plan, by_settling, in_index}
+use Rattle.ingest_engine.specs.Ingesting.{IsIngestEvidence, among_stamps, behind_path, by_plan, by_settling, on_path}
 use Rattle.record_query.specs.LookingUp.{LookUpEnds}
 use Rattle.volume_audit.proofs.Comes.{licensed}
 use Rattle.hostile_replay.specs.Headline.{IsEvident, TamperingIsEvident}
@@ -47,7 +47,8 @@ named_licensed : {id : List ℕ} {stamp : Option ℕ} {body : List ℕ} {old new
 named_licensed (by_settling settles found) = found.licensed
 named_licensed (by_plan way) = way.found.licensed
 named_licensed (among_stamps ready slot given rule licensed) = licensed
-named_licensed (in_index ready slot past rule licensed) = licensed
+named_licensed (on_path ready slot past rule lies licensed) = licensed
+named_licensed (behind_path ready slot past growth licensed) = licensed
 
 -- the licence speaks of the device as the command began, which stands as before
 at_entry : (plan : Schedule) (old new : Memory) (e : Evidence) → IsLicensed (device_of (begun_with plan old)) (device_of new) e

@@ -6,7 +6,7 @@ use Rattle.cell_types.specs.declared.refusal.Fault.TheVariants as faults
 use Rattle.worm_device.specs.State.{DeviceState}
 use Rattle.worm_device.specs.Views.{seen_directly}
 use Rattle.identifier_lookup.specs.Costs.{WalkCosts}
-use Rattle.identifier_lookup.specs.Walks.{WalkEnds}
+use Rattle.identifier_lookup.specs.Walks.{WalkEnds, WalkNames}
 use Rattle.identifier_lookup.specs.declared.answers.Walk.{Walk}
 use Rattle.identifier_lookup.specs.declared.answers.Walk.TheVariants as walks
 
@@ -45,6 +45,14 @@ any_loan g horizon edge id old new lent back (Err (faults.Tampered e)) h = (
   h.1,
   λ tells. let seen = h.2 tells in record { rule = seen.rule; stands = seen.stands; broken = seen.broken },
 )
+
+-- what it names
+pub names_by_any : (g : Layout) (id : List ℕ) (old new : DeviceState) (lent back : ℕ) (result : Result Walk Fault)
+    → WalkNames g id (seen_directly old lent) (seen_directly new back) result
+    → WalkNames g id (seen_directly old 0) (seen_directly new 0) result
+names_by_any g id old new lent back (Ok walked) named = named
+names_by_any g id old new lent back (Err faults.Failed) named = named
+names_by_any g id old new lent back (Err (faults.Tampered e)) named = named
 
 -- and what it costs
 pub costs_by_any : (g : Layout) (id : List ℕ) (old new : DeviceState) (lent back : ℕ)

@@ -26,8 +26,8 @@ use Rattle.plan_writer.specs.declared.plan.Plan.{Plan}
 use Rattle.plan_writer.proofs.PutFrom.{called, ends_2, free_2, volume_2}
 use Rattle.ingest_plan.specs.Planning.{cut_at}
 use Rattle.commit_record.specs.Licences.{IsLicensed}
-use Rattle.ingest_engine.specs.Indexing.{IsFoundInOrder, IsFoundOnWay}
-use Rattle.ingest_engine.specs.Ingesting.{HasFreeSlot, IsInTheWay, IsLogRule, IsIngestEvidence, IsPlanFor, among_stamps, by_plan, in_index, need_with}
+use Rattle.ingest_engine.specs.Indexing.{IsByGrowthRule, IsByPathRule, IsFoundInOrder, IsFoundOnWay}
+use Rattle.ingest_engine.specs.Ingesting.{HasFreeSlot, IsInTheWay, IsLogRule, IsIngestEvidence, IsPlanFor, among_stamps, behind_path, by_plan, need_with, on_path}
 use Rattle.ingest_engine.proofs.FullLogs.{has_slot}
 use Rattle.ingest_engine.proofs.Suited.{copies_of, entry}
 
@@ -51,7 +51,7 @@ module _ {old new : DeviceState} (r : Ready) (has : HasSettled old new r) (tells
   }
 
   -- what was found on the way is licensed
-  licensed : {IsLookedAt : ℕ → Type 0} (e : Evidence) → IsFoundOnWay IsLookedAt r has.settled new e
+  licensed : {IsByRule : Evidence → Type 0} (e : Evidence) → IsFoundOnWay IsByRule r has.settled new e
       → IsLicensed old new e
   licensed e found = record {
     stands = found.stands;
@@ -68,8 +68,14 @@ module _ {old new : DeviceState} (r : Ready) (has : HasSettled old new r) (tells
         → IsIngestEvidence id stamp body old new e
     named_on_way e (inl found) =
         among_stamps r (has_slot r has takes slot) found.0 found.1.rule (licensed e found.1)
-    named_on_way e (inr found) =
-        in_index r (has_slot r has takes slot) found.0 found.1.rule (licensed e found.1)
+    named_on_way {id} {body} e (inr found) =
+        let free = has_slot r has takes slot in
+        let volume = (has.settles.ends.1 tells).volume in
+        ⊎_elim
+        (λ (path : IsByPathRule r id has.settled new e).
+        on_path r free found.0 path.rule (path.lies volume) (licensed e found.1))
+        (λ (growth : IsByGrowthRule r id body has.settled new e).
+        behind_path r free found.0 growth (licensed e found.1)) found.1.rule
 
 -- a blank cell is blank in what stands before the edge
 cut_blank : (edge : ℕ) (image : Image) (cell : ℕ) → image cell ≡ None → cut_at edge image cell ≡ None

@@ -17,10 +17,10 @@ use Rattle.worm_device.proofs.Resting.{rests_of}
 use Rattle.hash_tree.specs.Levels.{IsLedWithin}
 use Rattle.hash_tree.proofs.Growing.{led_within_on}
 use Rattle.recovery_engine.specs.declared.settling.Ready.{Ready}
-use Rattle.identifier_lookup.proofs.Loaned.{any_loan}
+use Rattle.identifier_lookup.proofs.Loaned.{any_loan, names_by_any}
 use Rattle.volume_meaning.proofs.Extending.{volume_on}
 use Rattle.volume_meaning.specs.Volumes.{IsVolume}
-use Rattle.identifier_lookup.specs.Walks.{WalkEnds}
+use Rattle.identifier_lookup.specs.Walks.{WalkEnds, WalkNames}
 use Rattle.identifier_lookup.specs.declared.answers.Walk.{Walk}
 use Rattle.identifier_lookup.specs.declared.answers.Walk.TheVariants as walks
 use Rattle.ingest_plan.specs.Planning.{IsLater, PlanEnds, PlansIndex}
@@ -34,11 +34,13 @@ use Rattle.ingest_engine.specs.declared.indexing.PathEnd.{PathEnd}
 pub device_walks : (r : Ready) (id : List ℕ) {entry new : DeviceState} {lent back : ℕ}
     → Viewed (seen_directly entry lent) (seen_directly new back) → (result : Result Walk Fault)
     → WalkEnds r.volume.geometry r.horizon r.edge id (seen_directly entry lent) (seen_directly new back) result
+    → WalkNames r.volume.geometry id (seen_directly entry lent) (seen_directly new back) result
     → WalksDevice r id entry new result
-device_walks r id {entry} {new} {lent} {back} viewed result ends = record {
+device_walks r id {entry} {new} {lent} {back} viewed result ends named = record {
   called = viewed.called;
   quiet = (rests_of viewed).shown;
   ends = any_loan r.volume.geometry r.horizon r.edge id entry new lent back result ends;
+  named = names_by_any r.volume.geometry id entry new lent back result named;
 }
 
 -- where nobody else wrote from a first state to a third, what stands is as it was at the first, if each call left it so
@@ -63,7 +65,12 @@ walk_failed r id entry new (faults.Tampered e) walks = record {
   quiet = walks.quiet;
   ends = λ tells.
       let seen = walks.ends.2 tells in
-      record { rule = seen.rule; stands = seen.stands; place = walks.ends.0; broken = seen.broken };
+      record {
+        rule = record { rule = seen.rule; lies = walks.named tells };
+        stands = seen.stands;
+        place = walks.ends.0;
+        broken = seen.broken;
+      };
 }
 
 -- a walk from a later state on, with nothing but looks before it, is one from the earlier state on
@@ -121,7 +128,7 @@ module _ (r : Ready) (id : List ℕ) (entry mid new : DeviceState) (first : Call
       why (Err PathFull) h = walks_since walks.PathFull h
       why (Err DeviceFault) h = omega (arith, h, same)
       why (Err (Tampered e)) h = λ tells. let found = h (told_mid tells) in record {
-        rule = found.rule;
+        rule = record { rule = found.rule.rule; lies = λ volume. found.rule.lies (volume_mid volume) };
         stands = found.stands;
         place = found.place;
         broken = λ still. found.broken (still_second first.foreign_writes path.called.foreign_writes still);
@@ -191,16 +198,16 @@ module _ (r : Ready) (id : List ℕ) (stamp : Option ℕ) (body : List ℕ) (ent
           inr (
             past,
             record {
-              rule = inr (
-                named.rule,
-                record {
+              rule = inr (record {
+                rule = named.rule;
+                ends = record {
                   walked = walked;
                   place = end.place;
                   level = end.level;
                   ends = record { called = path.called; path = path.ends; looked = plans.called; quiet = plans.quiet };
-                },
-                named.postings,
-              );
+                };
+                postings = named.postings;
+              });
               stands = named.stands;
               place = named.place led;
               broken = λ still volume horizon edge. named.broken led

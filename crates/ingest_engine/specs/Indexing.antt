@@ -18,7 +18,7 @@ use Rattle.worm_device.specs.Views.{seen_directly}
 use Rattle.hash_tree.specs.declared.level.Level.{Level}
 use Rattle.hash_tree.specs.declared.path.Open.{Open}
 use Rattle.recovery_engine.specs.declared.settling.Ready.{Ready}
-use Rattle.identifier_lookup.specs.Walks.{IsWalkRule, WalkEnds}
+use Rattle.identifier_lookup.specs.Walks.{IsWalkRule, LiesOnPath, WalkEnds, WalkNames}
 use Rattle.identifier_lookup.specs.declared.answers.Walk.{Walk}
 use Rattle.identifier_lookup.specs.declared.answers.Walk.TheVariants as walks
 use Rattle.ingest_plan.specs.Planning.{IsGrowthRule, IsLater, IsPlanned}
@@ -62,16 +62,32 @@ pub record IsTooEarly (r : Ready) (stamp : Option ℕ) (given last : ℕ) (entry
   pub stands : IsTrue entry.tells → IsStampBelow r.volume.geometry new.image r.horizon last
   pub most : IsTrue entry.tells → AreUpTo r.volume.geometry entry.image 0 r.horizon (Some last)
 
--- the rules that are named on the way: those of a walk along the path, and behind its end, where no list gets too many
--- tags of the body, those of planning
-abbrev pub IsPathRule : Ready → List ℕ → List ℕ → DeviceState → DeviceState → ℕ → Type 0
-IsPathRule r id body entry new number =
-    IsWalkRule number ⊎ (IsGrowthRule number × HasPathEnd r id entry new × HasPostings r.volume.geometry body)
+-- named by a rule of slots
+abbrev pub IsBySlotRule : Evidence → Type 0
+IsBySlotRule e = IsSlotRule e.rule
 
--- Evidence that was found on the way, by one of these rules. It stands in a place of its rule. Where nobody else wrote,
--- cell 0 states the volume that was found ready, and its horizon and its edge are such, the rule is broken there.
-pub record IsFoundOnWay (IsLookedAt : ℕ → Type 0) (r : Ready) (entry new : DeviceState) (e : Evidence) : Type 0 where
-  pub rule : IsLookedAt e.rule
+-- Named by a rule of walks; and where cell 0 stated this volume at entry, it lies on the identifier's path, as this
+-- stands at exit.
+pub record IsByPathRule (r : Ready) (id : List ℕ) (entry new : DeviceState) (e : Evidence) : Type 0 where
+  pub rule : IsWalkRule e.rule
+  pub lies : IsVolume entry.cells entry.image r.volume.geometry
+      → LiesOnPath r.volume.geometry new.cells new.image id e
+
+-- Named by a rule of planning, behind the path's end, where no list gets too many tags of the body.
+pub record IsByGrowthRule (r : Ready) (id body : List ℕ) (entry new : DeviceState) (e : Evidence) : Type 0 where
+  pub rule : IsGrowthRule e.rule
+  pub ends : HasPathEnd r id entry new
+  pub postings : HasPostings r.volume.geometry body
+
+-- named on the way: on the identifier's path, or behind its end
+abbrev pub IsByWayRule : Ready → List ℕ → List ℕ → DeviceState → DeviceState → Evidence → Type 0
+IsByWayRule r id body entry new e = IsByPathRule r id entry new e ⊎ IsByGrowthRule r id body entry new e
+
+-- Evidence that was found on the way, so named. It stands in a place of its rule. Where nobody else wrote, cell 0
+-- states the volume that was found ready, and its horizon and its edge are such, the rule is broken there.
+pub record IsFoundOnWay (IsByRule : Evidence → Type 0) (r : Ready) (entry new : DeviceState) (e : Evidence) : Type 0
+  where
+  pub rule : IsByRule e
   pub stands : new.image e.cell ≡ Some e.found
   pub place : IsPlaceOf r.volume.geometry e.rule e.cell
   pub broken : IsStill entry.foreign_writes new.foreign_writes → IsVolume new.cells new.image r.volume.geometry
@@ -83,14 +99,15 @@ pub record IsFoundOnWay (IsLookedAt : ℕ → Type 0) (r : Ready) (entry new : D
 abbrev pub IsFoundInOrder
     : Ready → List ℕ → Option ℕ → List ℕ → DeviceState → DeviceState → Evidence → Type 0
 IsFoundInOrder r id stamp body entry new e =
-    (IsGiven stamp × IsFoundOnWay IsSlotRule r entry new e)
-    ⊎ (IsStampPast r stamp entry × IsFoundOnWay (IsPathRule r id body entry new) r entry new e)
+    (IsGiven stamp × IsFoundOnWay IsBySlotRule r entry new e)
+    ⊎ (IsStampPast r stamp entry × IsFoundOnWay (IsByWayRule r id body entry new) r entry new e)
 
 -- what a walk along the identifier's path on the device does: it changes nothing
 pub record WalksDevice (r : Ready) (id : List ℕ) (entry new : DeviceState) (result : Result Walk Fault) : Type 0 where
   pub called : Called entry new
   pub quiet : IsStill entry.foreign_writes new.foreign_writes → IsUnchanged entry.image new.image
   pub ends : WalkEnds r.volume.geometry r.horizon r.edge id (seen_directly entry 0) (seen_directly new 0) result
+  pub named : WalkNames r.volume.geometry id (seen_directly entry 0) (seen_directly new 0) result
 
 -- how a look for the path's end may end, and why
 abbrev pub PathLookEnds : Ready → List ℕ → DeviceState → DeviceState → Result PathEnd Refusal → Type 0
@@ -98,7 +115,8 @@ PathLookEnds r id entry new (Ok end) = WalksOn r id entry new (walks.End end.pla
 PathLookEnds r id entry new (Err (Duplicate n)) = WalksOn r id entry new (walks.Found n)
 PathLookEnds r id entry new (Err PathFull) = WalksOn r id entry new walks.PathFull
 PathLookEnds r id entry new (Err DeviceFault) = Rose entry.faults new.faults
-PathLookEnds r id entry new (Err (Tampered e)) = IsTrue entry.tells → IsFoundOnWay IsWalkRule r entry new e
+PathLookEnds r id entry new (Err (Tampered e)) =
+    IsTrue entry.tells → IsFoundOnWay (IsByPathRule r id entry new) r entry new e
 PathLookEnds r id entry new (Err refusal) = ⊥
 
 -- such a look changes nothing
@@ -120,7 +138,7 @@ PastEnds r stamp entry new (Ok u) = (new.faults ≡ entry.faults) × IsStampPast
 PastEnds r stamp entry new (Err (StampTooEarly given last)) = IsTooEarly r stamp given last entry new
 PastEnds r stamp entry new (Err DeviceFault) = Rose entry.faults new.faults
 PastEnds r stamp entry new (Err (Tampered e)) =
-    IsGiven stamp × (IsTrue entry.tells → IsFoundOnWay IsSlotRule r entry new e)
+    IsGiven stamp × (IsTrue entry.tells → IsFoundOnWay IsBySlotRule r entry new e)
 PastEnds r stamp entry new (Err refusal) = ⊥
 
 -- such a look changes nothing

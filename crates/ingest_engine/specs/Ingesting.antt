@@ -18,7 +18,7 @@ use Rattle.commit_record.specs.Licences.{IsLicensed}
 use Rattle.document_store.specs.Looks.{HoldsIdentifier}
 use Rattle.recovery_engine.specs.Settling.{HasSettled, IsFoundBroken, IsSettlingRule, SettleEnds, Settles}
 use Rattle.recovery_engine.specs.declared.settling.Ready.{Ready}
-use Rattle.identifier_lookup.specs.Walks.{HasIdentifierTrail, IsFirstOnPath, IsPassedWhole, NoneHasTrail}
+use Rattle.identifier_lookup.specs.Walks.{HasIdentifierTrail, IsFirstOnPath, IsPassedWhole, IsWalkRule, LiesOnPath, NoneHasTrail}
 use Rattle.plan_writer.specs.Blank.{IsOfNewSlot}
 use Rattle.plan_writer.specs.CrashLaws.{IsWholeOrUncommitted}
 use Rattle.plan_writer.specs.Planned.{PlansDocument, Suits}
@@ -26,7 +26,7 @@ use Rattle.plan_writer.specs.PuttingPlans.{PutsPlan}
 use Rattle.plan_writer.specs.declared.plan.Plan.{Plan}
 use Rattle.ingest_plan.specs.Planning.{IsLater}
 use Rattle.ingest_plan.specs.declared.plan.PlannedIndex.{PlannedIndex}
-use Rattle.ingest_engine.specs.Indexing.{HasIndex, HasTooMany, IsGiven, IsPathRule, IsStampPast, IsTooEarly}
+use Rattle.ingest_engine.specs.Indexing.{HasIndex, HasTooMany, IsByGrowthRule, IsGiven, IsStampPast, IsTooEarly}
 use Rattle.ingest_engine.specs.Stamps.{IsSlotRule}
 
 -- The plan is of this document, with this stamp, and of its index, which was planned after settling: it has the index's
@@ -212,9 +212,10 @@ pub record IsInTheWay (id : List ℕ) (stamp : Option ℕ) (body : List ℕ) (ol
     pub since : Called looked new
     pub unput : IsStill old.foreign_writes new.foreign_writes → IsUnchanged looked.image new.image
 
--- How tampering is named: while the volume was settled; in the way of the plan; or, where the volume was settled and had a
--- free slot, and was only looked at, in the slots, which are looked at for their stamps where a stamp is given; or on the
--- way through the index, once the stamp, if one is given, is past all others.
+-- How tampering is named: while the volume was settled; in the way of the plan; or, where the volume was settled and
+-- had a free slot, and was only looked at, in the slots, which are looked at for their stamps where a stamp is given;
+-- or, once the stamp, if one is given, is past all others, on the path of the identifier, as this stands at exit; or,
+-- once this path has come to its end, by a rule of planning.
 pub data IsIngestEvidence (id : List ℕ) (stamp : Option ℕ) (body : List ℕ) (old new : DeviceState)
     (e : Evidence) : Type 0 where
   by_settling : Settles old new (Err (Tampered e)) → IsFoundBroken IsSettlingRule old new e
@@ -222,8 +223,11 @@ pub data IsIngestEvidence (id : List ℕ) (stamp : Option ℕ) (body : List ℕ)
   by_plan : IsInTheWay id stamp body old new e → IsIngestEvidence id stamp body old new e
   among_stamps : (ready : Ready) → HasFreeSlot stamp old new ready → IsGiven stamp → IsSlotRule e.rule
       → IsLicensed old new e → IsIngestEvidence id stamp body old new e
-  in_index : (ready : Ready) (slot : HasFreeSlot stamp old new ready) → IsStampPast ready stamp slot.settled.settled
-      → IsPathRule ready id body slot.settled.settled new e.rule
+  on_path : (ready : Ready) (slot : HasFreeSlot stamp old new ready) → IsStampPast ready stamp slot.settled.settled
+      → IsWalkRule e.rule → LiesOnPath ready.volume.geometry new.cells new.image id e
+      → IsLicensed old new e → IsIngestEvidence id stamp body old new e
+  behind_path : (ready : Ready) (slot : HasFreeSlot stamp old new ready) → IsStampPast ready stamp slot.settled.settled
+      → IsByGrowthRule ready id body slot.settled.settled new e
       → IsLicensed old new e → IsIngestEvidence id stamp body old new e
 
 -- how an ingest may end, and why

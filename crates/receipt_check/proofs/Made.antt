@@ -23,14 +23,14 @@ use Rattle.worm_device.specs.Views.{Viewed, seen_directly}
 use Rattle.worm_device.proofs.Counting.{still_second}
 use Rattle.worm_device.proofs.Elapsing.{called_then}
 use Rattle.commit_record.specs.Licences.{IsLicensed}
-use Rattle.record_query.specs.LookingUp.{IsFirstOfPath, IsLookUpRule, IsLookedUp, LookUpEnds, LooksUp, NamesLookUpRule}
+use Rattle.record_query.specs.LookingUp.{IsFirstOfPath, IsLookUpRule, IsLookedUp, LookUpEnds, LooksUp, NamesLookUpEvidence, NamesLookUpRule}
 use Rattle.record_query.specs.declared.found.Found.{Found}
 use Rattle.kept_documents.specs.Kept.{KeepsNone, document_of}
 use Rattle.kept_documents.proofs.Opening.{the_same}
 use Rattle.receipt_text.specs.Listed.{listed_image}
 use Rattle.receipt_text.specs.declared.receipt.Receipt.{Receipt}
 use Rattle.receipt_check.specs.Judging.{IsSlotReceipt, LimitEnds}
-use Rattle.receipt_check.specs.Making.{IsReceiptOf, IsUnkept, MakeEnds, MakesReceipt, NamesMakingRule}
+use Rattle.receipt_check.specs.Making.{IsReceiptOf, IsUnkept, MakeEnds, MakesReceipt, NamesMakingEvidence, NamesMakingRule}
 use Rattle.receipt_check.specs.Naming.{NamesUnkept}
 use Rattle.receipt_check.specs.Discard.{discard}
 use Rattle.receipt_check.proofs.Later.{comes_later, comes_to, kept_before, looked_up_later}
@@ -68,6 +68,11 @@ module _ (id : List ℕ) (old new : DeviceState) where
   unlooked_rule (Tampered e) rule = λ tells. inl (rule tells)
   unlooked_rule refusal rule = tt
 
+  unlooked_named : (refusal : Refusal) → NamesLookUpEvidence id old new (Err refusal)
+      → NamesMakingEvidence id old new (Err refusal)
+  unlooked_named (Tampered e) named = λ tells. inl (named tells)
+  unlooked_named refusal named = tt
+
   pub unlooked : (refusal : Refusal) → LooksUp id old new discard discard (Err refusal)
       → MakesReceipt id old new (Err refusal)
   unlooked refusal looks = record {
@@ -75,6 +80,7 @@ module _ (id : List ℕ) (old new : DeviceState) where
     comes = comes_to refusal looks.comes;
     ends = unlooked_ends refusal looks.ends looks.rule;
     rule = unlooked_rule refusal looks.rule;
+    named = unlooked_named refusal looks.named;
   }
 
 -- a document whose postings have their trails is kept where it is the first on its path
@@ -105,21 +111,22 @@ module _ (id : List ℕ) (found : Found) (old mid new : DeviceState) (looks : Lo
   looked tells = looked_up_later viewed looks.called.foreign_writes (looks.ends.first tells)
 
   come : (result : Result Receipt Refusal) → MakeEnds id old new result → NamesMakingRule old result
-      → MakesReceipt id old new result
-  come result ends rule = record {
+      → NamesMakingEvidence id old new result → MakesReceipt id old new result
+  come result ends rule named = record {
     called = called_then looks.called viewed.called;
     comes = comes_later viewed looks.comes;
     ends = ends;
     rule = rule;
+    named = named;
   }
 
   -- memory lacked
   pub unmade : MakesReceipt id old new (Err NoMemory)
-  unmade = come (Err NoMemory) (λ tells. (found.slot, looks.ends.body, looked tells)) tt
+  unmade = come (Err NoMemory) (λ tells. (found.slot, looks.ends.body, looked tells)) tt tt
 
   -- a read failed
   pub unread : Rose mid.faults new.faults → MakesReceipt id old new (Err DeviceFault)
-  unread rose = come (Err DeviceFault) (omega (arith, looks.called.faults, rose)) tt
+  unread rose = come (Err DeviceFault) (omega (arith, looks.called.faults, rose)) tt tt
 
   -- the receipt was slot_receipt
   module _ (r : Receipt) (g : IsSlotReceipt found.slot id mid new r) where
@@ -159,9 +166,9 @@ module _ (id : List ℕ) (found : Found) (old mid new : DeviceState) (looks : Lo
         most = ends.1;
       },
       receipt_of,
-    ) tt)
+    ) tt tt)
     limited is (Err (ReceiptTooLong count)) ends = come (Err (ReceiptTooLong count))
-        (record { receipt = r; is = receipt_of; counted = ends.0; more = ends.1 }) tt
+        (record { receipt = r; is = receipt_of; counted = ends.0; more = ends.1 }) tt tt
     limited is (Err refusal) ends = absurd ends
 
 -- slot n was found, and is not kept
@@ -234,9 +241,7 @@ module _ (id : List ℕ) (found : Found) (old mid new : DeviceState) (looks : Lo
             ((done_there tells).stands ∙ ap (λ (c : List ℕ). Some c) ((done_there tells).is.same ∙ sym names.2))
             (none tells) tells,
         λ _. unkept e.cell names.1 (none tells) tells,
-      )) (λ tells. inr names.0)
-  name Absent none late = come id found old mid new looks viewed (Err Absent)
-      (λ tells. absurd (omega (arith, late, (done_there tells).is.well_formed))) tt
+      )) (λ tells. inr names.0) (λ tells. inr names.0)
   name refusal none names = absurd names
 
 -- slot n was found, and is not kept

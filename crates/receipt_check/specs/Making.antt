@@ -12,7 +12,7 @@ use Rattle.worm_device.specs.Calls.{Called}
 use Rattle.worm_device.specs.Counts.{IsStill, Rose}
 use Rattle.worm_device.specs.State.{DeviceState}
 use Rattle.recovery_engine.specs.Settling.{SettleEnds, SettlesFirst}
-use Rattle.record_query.specs.LookingUp.{IsAbsent, IsLookUpRule, IsLookedUp}
+use Rattle.record_query.specs.LookingUp.{IsAbsent, IsLookUpEvidence, IsLookUpRule, IsLookedUp}
 use Rattle.kept_documents.specs.Kept.{document_of}
 use Rattle.receipt_text.specs.Form.{IsReceiptOn}
 use Rattle.receipt_text.specs.Listed.{AreListed, listed_image}
@@ -73,9 +73,18 @@ NamesMakingRule old (Ok r) = ⊤
 NamesMakingRule old (Err (Tampered e)) = IsTrue old.tells → IsMakingRule e.rule
 NamesMakingRule old (Err refusal) = ⊤
 
+-- where it ends with evidence, the look-up named this, as settling or on the identifier's path; or it is by the rule of
+-- trails, of which `MakeEnds` says the slot
+abbrev pub NamesMakingEvidence : List ℕ → DeviceState → DeviceState → Result Receipt Refusal → Type 0
+NamesMakingEvidence id old new (Ok r) = ⊤
+NamesMakingEvidence id old new (Err (Tampered e)) =
+    IsTrue old.tells → IsLookUpEvidence id old new e ⊎ (e.rule ≡ MISSING_TRAIL)
+NamesMakingEvidence id old new (Err refusal) = ⊤
+
 -- what it means that a receipt is made, or that this was ended
 pub record MakesReceipt (id : List ℕ) (old new : DeviceState) (result : Result Receipt Refusal) : Type 0 where
   pub called : Called old new
   pub comes : SettlesFirst Receipt old new result
   pub ends : MakeEnds id old new result
   pub rule : NamesMakingRule old result
+  pub named : NamesMakingEvidence id old new result

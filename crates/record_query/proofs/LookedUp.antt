@@ -30,14 +30,14 @@ use Rattle.document_store.specs.declared.body.BodyFault.{BodyFault}
 use Rattle.document_store.specs.declared.body.BodyFault.TheVariants as bodies
 use Rattle.document_store.proofs.Holding.{held_is_done, held_is_one, held_on, held_stands}
 use Rattle.identifier_lookup.specs.Costs.{WalkCosts}
-use Rattle.identifier_lookup.specs.Walks.{HasIdentifierTrail, IsFirstOnPath, IsFound, IsPathLicensed, NoneHasTrail}
+use Rattle.identifier_lookup.specs.Walks.{HasIdentifierTrail, IsFirstOnPath, IsFound, IsPathLicensed, NoneHasTrail, in_slot}
 use Rattle.identifier_lookup.specs.declared.answers.Walk.TheVariants as walks
-use Rattle.identifier_lookup.proofs.Licence.{names_licensed}
+use Rattle.identifier_lookup.proofs.Licence.{names_licensed, slot_cell}
 use Rattle.hash_tree.specs.declared.level.Level.{Level}
 use Rattle.hash_tree.specs.declared.path.Open.{Open}
 use Rattle.record_query.specs.Looking.{HasLooked}
 use Rattle.record_query.proofs.Looking.{is_ready, same_since, still_looking, tells_settled, volume_now, looked_more}
-use Rattle.record_query.specs.LookingUp.{IsLookedUp, IsThatOf, LookUpEnds, LooksUp, NamesLookUpRule, NoneHas, PathEnds, PutsFront, at_place, behind_all, refusal_of_body}
+use Rattle.record_query.specs.LookingUp.{IsLookedUp, IsThatOf, LookUpEnds, LooksUp, NamesLookUpEvidence, NamesLookUpRule, NoneHas, PathEnds, PutsFront, at_place, behind_all, by_settling, on_path, refusal_of_body}
 use Rattle.record_query.specs.Reaching.{WalksOnDevice}
 use Rattle.record_query.specs.declared.found.Found.{Found}
 use Rattle.record_query.proofs.LookedBriefly.{put_briefly, walked_briefly}
@@ -58,6 +58,11 @@ module _ (id : List ℕ) (old new : DeviceState) (sink : SinkState) where
   refused_rule (Tampered e) ends = λ tells. inl (ends tells).rule
   refused_rule refusal ends = tt
 
+  -- settling named it
+  refused_named : (refusal : Refusal) → Settles old new (Err refusal) → NamesLookUpEvidence id old new (Err refusal)
+  refused_named (Tampered e) s = λ tells. by_settling s
+  refused_named refusal s = tt
+
   pub look_up_unsettled : (refusal : Refusal) → Settles old new (Err refusal)
       → LooksUp id old new sink sink (Err refusal)
   look_up_unsettled refusal s = record {
@@ -65,6 +70,7 @@ module _ (id : List ℕ) (old new : DeviceState) (sink : SinkState) where
     comes = SettlesFirst.settling refusal refl s;
     ends = refused refusal s.ends;
     rule = refused_rule refusal s.ends;
+    named = refused_named refusal s;
     briefly = λ tells settled still mates have. omega (arith, s.again tells settled still);
   }
 
@@ -114,12 +120,14 @@ module _ (id : List ℕ) (r : Ready) (old settled mid : DeviceState) (s : Settle
 
   module _ (sink : SinkState) where
     come : WalkCosts g id (seen_directly settled 0) (seen_directly mid 0) → (answer : Result Found Refusal)
-        → LookUpEnds id old mid sink sink answer → NamesLookUpRule old answer → LooksUp id old mid sink sink answer
-    come costs answer ends rule = record {
+        → LookUpEnds id old mid sink sink answer → NamesLookUpRule old answer
+        → NamesLookUpEvidence id old mid answer → LooksUp id old mid sink sink answer
+    come costs answer ends rule named = record {
       called = called_then s.called seen.called;
       comes = comes_to_settled before;
       ends = ends;
       rule = rule;
+      named = named;
       briefly = walked_briefly id r old settled mid s seen costs;
     }
 
@@ -127,7 +135,7 @@ module _ (id : List ℕ) (r : Ready) (old settled mid : DeviceState) (s : Settle
     pub look_up_unwalked : (fault : Fault) → WalksOnDevice r id settled mid (Err fault)
         → LooksUp id old mid sink sink (Err (refusal_of_fault fault))
     look_up_unwalked faults.Failed w =
-        come w.costs (Err DeviceFault) (omega (arith, s.called.faults, w.ends), (refl, inl refl)) tt
+        come w.costs (Err DeviceFault) (omega (arith, s.called.faults, w.ends), (refl, inl refl)) tt tt
     look_up_unwalked (faults.Tampered e) w = come w.costs (Err (Tampered e)) (
       (refl, inl refl),
       λ tells.
@@ -142,7 +150,8 @@ module _ (id : List ℕ) (r : Ready) (old settled mid : DeviceState) (s : Settle
                   (reach_is before tells still).horizon (edge_is before tells still);
             },
           ),
-    ) (λ tells. inr (w.ends.2 (tells_settled before tells)).rule)
+    ) (λ tells. inr (w.ends.2 (tells_settled before tells)).rule) (λ tells.
+        on_path g (volume_now before tells) (w.named (tells_settled before tells) (is_ready before tells).volume))
 
     none_has : IsTrue old.tells → NoneHasTrail g settled.cells settled.image id → (documents : List Document)
         → Kept settled.cells settled.image documents → NoneHas id documents
@@ -163,7 +172,7 @@ module _ (id : List ℕ) (r : Ready) (old settled mid : DeviceState) (s : Settle
             (subst (λ (i : Image). Kept settled.cells i documents) (same_since before still)
             (subst (λ (k : ℕ). Kept k mid.image documents) seen.called.cells kept));
       },
-    ) tt
+    ) tt tt
 
     -- the path ends
     pub look_up_ended : (place : Open) (level : Level) → WalksOnDevice r id settled mid (Ok (walks.End place level))
@@ -194,6 +203,11 @@ module _ (id : List ℕ) (r : Ready) (old settled mid : DeviceState) (s : Settle
       told_new : IsTrue old.tells → IsTrue new.tells
       told_new tells = subst IsTrue (sym viewed.called.tells) (told_mid tells)
 
+      -- the slot is the first on the path at exit, too
+      first_now : IsTrue old.tells → IsFirstOnPath g new.cells new.image id n
+      first_now tells = first_on viewed.image (subst (λ (k : ℕ). IsFirstOnPath g k mid.image id n)
+          (sym viewed.called.cells) ((found tells).first (is_ready before tells).volume))
+
       module _ (tells : IsTrue old.tells) (body : List ℕ) (h : HoldsBody g new.image n body) where
         -- the body that slot n holds at exit is that of the document with the identifier
         stands : Stands new.cells new.image n id body
@@ -222,8 +236,7 @@ module _ (id : List ℕ) (r : Ready) (old settled mid : DeviceState) (s : Settle
             layout = g;
             volume = volume_now after tells;
             stands = stands;
-            first = first_on viewed.image (subst (λ (k : ℕ). IsFirstOnPath g k mid.image id n) (sym viewed.called.cells)
-                ((found tells).first (is_ready before tells).volume));
+            first = first_now tells;
           };
           before = λ documents kept. that_of documents (kept_settled documents kept);
           alone = λ still documents kept. that_of documents
@@ -245,12 +258,14 @@ module _ (id : List ℕ) (r : Ready) (old settled mid : DeviceState) (s : Settle
       no_more got = ⊎_elim (λ (e : to ≡ from). inl e) (λ part. inr (puts_front part)) got
 
       come_to : ReadsTwice g n (seen_directly mid 0) (seen_directly new 0) → (answer : Result Found Refusal)
-          → LookUpEnds id old new from to answer → NamesLookUpRule old answer → LooksUp id old new from to answer
-      come_to twice answer is rule = record {
+          → LookUpEnds id old new from to answer → NamesLookUpRule old answer
+          → NamesLookUpEvidence id old new answer → LooksUp id old new from to answer
+      come_to twice answer is rule named = record {
         called = called_then (called_then s.called seen.called) viewed.called;
         comes = comes_to_settled after;
         ends = is;
         rule = rule;
+        named = named;
         briefly = λ tells. put_briefly id r old settled mid s seen w.costs tells n (found tells) new viewed twice;
       }
 
@@ -261,10 +276,11 @@ module _ (id : List ℕ) (r : Ready) (old settled mid : DeviceState) (s : Settle
       looked_up bytes twice put = come_to twice (Ok (record { slot = n; bytes = bytes })) (record {
         body = put.2.body;
         first = λ tells. looked_up_is tells put.2.body (put.2.holds (told_new tells));
+        below = omega (arith, w.ends.0, s.ends.0.horizon, s.ends.0.layout.slots);
         bytes_is = put.2.length_is;
         gets = put.2.gets;
         faults = put.1;
-      }) tt
+      }) tt tt
 
       -- or why it was not put
       pub look_up_unput : (fault : BodyFault) → ReadsTwice g n (seen_directly mid 0) (seen_directly new 0)
@@ -290,7 +306,8 @@ module _ (id : List ℕ) (r : Ready) (old settled mid : DeviceState) (s : Settle
                         (volume_now after tells) (reach_is after tells still).horizon (edge_is after tells still);
                   },
                 ),
-          ) (λ tells. inr (named tells).rule)
+          ) (λ tells. inr (named tells).rule) (λ tells.
+              on_path g (volume_now after tells) (in_slot n (first_now tells) (slot_cell (put.0.2 (told_mid tells)))))
       look_up_unput bodies.ReadFault twice put = come_to twice (Err DeviceFault)
-          (omega (arith, s.called.faults, seen.called.faults, put.0), (put.1, no_more put.2)) tt
-      look_up_unput bodies.SinkFault twice put = come_to twice (Err SinkFault) (put.1, puts_front put.2) tt
+          (omega (arith, s.called.faults, seen.called.faults, put.0), (put.1, no_more put.2)) tt tt
+      look_up_unput bodies.SinkFault twice put = come_to twice (Err SinkFault) (put.1, puts_front put.2) tt tt

@@ -1,6 +1,8 @@
 -- What it means that a document is looked up by its identifier.
-use Rattle.std.specs.Prelude.{◌≡◌, ◌≤◌, ◌+◌, ◌*◌, ◌⊎◌, ℕ, List, length, take, Contains, Result, Ok, Err, IsTrue, ⊤}
+use Rattle.std.specs.Prelude.{◌≡◌, ◌<◌, ◌≤◌, ◌+◌, ◌*◌, ◌⊎◌, ℕ, List, length, take, Contains, Result, Ok, Err, IsTrue, ⊤}
 use Rattle.cell_types.specs.Layout.{Layout}
+use Rattle.cell_types.specs.declared.geometry.TheConstants.{MAX_SLOTS}
+use Rattle.cell_types.specs.declared.refusal.Evidence.{Evidence}
 use Rattle.cell_types.specs.declared.refusal.Refusal.{Refusal}
 use Rattle.cell_types.specs.declared.refusal.Refusal.TheVariants.{Absent, DeviceFault, NotAVolume, NotFormatted, SinkFault, Tampered, WrongSize}
 use Rattle.commit_record.specs.Licences.{IsLicensed}
@@ -12,13 +14,13 @@ use Rattle.host_ports.specs.Sinks.{Gets, SinkState}
 use Rattle.worm_device.specs.Calls.{Called}
 use Rattle.worm_device.specs.Counts.{IsStill, Rose}
 use Rattle.worm_device.specs.State.{DeviceState}
-use Rattle.recovery_engine.specs.Settling.{IsSettlingRule, SettleEnds, SettlesFirst}
+use Rattle.recovery_engine.specs.Settling.{IsSettlingRule, SettleEnds, Settles, SettlesFirst}
 use Rattle.document_store.specs.declared.body.BodyFault.{BodyFault}
 use Rattle.document_store.specs.declared.body.BodyFault.TheVariants as bodies
 use Rattle.hash_tree.specs.declared.level.Level.{Level}
 use Rattle.hash_tree.specs.declared.path.Open.{Open}
 use Rattle.identifier_lookup.specs.Costs.{HaveMates, Mate, mate_cells}
-use Rattle.identifier_lookup.specs.Walks.{IsBlankIn, IsFirstOnPath, IsPassedUpToPlace, IsPassedWhole, IsWalkRule}
+use Rattle.identifier_lookup.specs.Walks.{IsBlankIn, IsFirstOnPath, IsPassedUpToPlace, IsPassedWhole, IsWalkRule, LiesOnPath}
 use Rattle.record_query.specs.declared.found.Found.{Found}
 
 -- slot n stands with this identifier and body, and is the first on the identifier's path: each bucket above is passed
@@ -61,10 +63,12 @@ pub record IsAbsent (id : List ℕ) (old new : DeviceState) : Type 0 where
   pub alone : IsStill old.foreign_writes new.foreign_writes
       → (documents : List Document) → Kept new.cells new.image documents → NoneHas id documents
 
--- The sink got the body of the document, whole, and the answer names its slot and how many bytes the body has.
+-- The sink got the body of the document, whole, and the answer names its slot, which is one that a volume may have, and
+-- how many bytes the body has.
 pub record PutsBody (id : List ℕ) (old new : DeviceState) (from to : SinkState) (found : Found) : Type 0 where
   pub body : List ℕ
   pub first : IsTrue old.tells → IsLookedUp id body found.slot old new
+  pub below : found.slot < MAX_SLOTS
   pub bytes_is : found.bytes ≡ length body
   pub gets : Gets from.held to.held body
   pub faults : to.faults ≡ from.faults
@@ -108,6 +112,19 @@ NamesLookUpRule old (Ok found) = ⊤
 NamesLookUpRule old (Err (Tampered e)) = IsTrue old.tells → IsLookUpRule e.rule
 NamesLookUpRule old (Err refusal) = ⊤
 
+-- How a look-up names tampering: settling the volume was ended with it; or, by the layout that cell 0 states, it lies
+-- on the path of the identifier, as this stands at exit.
+pub data IsLookUpEvidence (id : List ℕ) (old new : DeviceState) (e : Evidence) : Type 0 where
+  by_settling : Settles old new (Err (Tampered e)) → IsLookUpEvidence id old new e
+  on_path : (layout : Layout) → IsVolume new.cells new.image layout → LiesOnPath layout new.cells new.image id e
+      → IsLookUpEvidence id old new e
+
+-- where a look-up ends with evidence, this is so named
+abbrev pub NamesLookUpEvidence : List ℕ → DeviceState → DeviceState → Result Found Refusal → Type 0
+NamesLookUpEvidence id old new (Ok found) = ⊤
+NamesLookUpEvidence id old new (Err (Tampered e)) = IsTrue old.tells → IsLookUpEvidence id old new e
+NamesLookUpEvidence id old new (Err refusal) = ⊤
+
 -- the reads of a look-up: so many, and so many more for each cell of the documents that it may have to read
 abbrev pub LOOK_UP_READS : ℕ
 LOOK_UP_READS = 1024
@@ -130,6 +147,7 @@ pub record LooksUp (id : List ℕ) (old new : DeviceState) (from to : SinkState)
   pub comes : SettlesFirst Found old new result
   pub ends : LookUpEnds id old new from to result
   pub rule : NamesLookUpRule old result
+  pub named : NamesLookUpEvidence id old new result
   pub briefly : IsTrue old.tells → LooksUpBriefly id old new
 
 -- a fault of putting a body, as a command refuses

@@ -8,7 +8,7 @@ use Rattle.worm_device.specs.Views.{Viewed, seen_directly}
 use Rattle.document_store.specs.Looks.{BodyEnds, ReadsTwice}
 use Rattle.document_store.specs.declared.body.BodyFault.{BodyFault}
 use Rattle.identifier_lookup.specs.Costs.{WalkCosts}
-use Rattle.identifier_lookup.specs.Walks.{WalkEnds}
+use Rattle.identifier_lookup.specs.Walks.{WalkEnds, WalkNames}
 use Rattle.identifier_lookup.specs.declared.answers.Walk.{Walk}
 use Rattle.recovery_engine.specs.declared.settling.Ready.{Ready}
 use Rattle.posting_list.specs.declared.reach.Reach.{Reach}
@@ -26,6 +26,7 @@ pub record WalksOnDevice (r : Ready) (id : List ℕ) (old new : DeviceState) (re
   pub viewed : Viewed (seen_directly old 0) (seen_directly new 0)
   pub costs : WalkCosts r.volume.geometry id (seen_directly old 0) (seen_directly new 0)
   pub ends : WalkEnds r.volume.geometry r.horizon r.edge id (seen_directly old 0) (seen_directly new 0) result
+  pub named : WalkNames r.volume.geometry id (seen_directly old 0) (seen_directly new 0) result
 
 -- so does putting the body of slot n's document, of which each cell is read twice at most
 pub record PutsFromDevice (g : Layout) (n : ℕ) (old new : DeviceState) (from to : SinkState)
