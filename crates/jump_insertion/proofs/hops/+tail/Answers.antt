@@ -269,3 +269,63 @@ returns-clause-last g t c =
     found.is (viewed_then c.greatest_pointer.ensures.viewed looked) c.tail.ensures.finds.viewed.called.foreign_writes
     c.requires.full (λ tells. holds_on looked.image (found.led tells)) (λ tells. found.blank tells)
     (λ k high low. omega (arith, high, low, c.min.ensures, c.requires.bound)) c.tail.result c.tail.ensures.last
+
+pub greatest_pointer-requires-clause-inside : goal.greatest_pointer-requires-clause-inside
+greatest_pointer-requires-clause-inside g t c = c.requires.inside
+
+pub greatest_pointer-requires-clause-bound : goal.greatest_pointer-requires-clause-bound
+greatest_pointer-requires-clause-bound g t c = c.requires.bound
+
+pub returns-in_default-clause-finds : goal.returns-in_default-clause-finds
+returns-in_default-clause-finds g t c = record { viewed = c.greatest_pointer.ensures.viewed; ends = tt }
+
+pub returns-in_err-found-clause-leads : goal.returns-in_err-found-clause-leads
+returns-in_err-found-clause-leads g t c =
+    rw (handed c.from_residual.result c.in_err-found.field-0.0 c.from_residual.ensures.1) tt
+
+pub returns-in_err-found-clause-last : goal.returns-in_err-found-clause-last
+returns-in_err-found-clause-last g t c =
+    rw (handed c.from_residual.result c.in_err-found.field-0.0 c.from_residual.ensures.1) tt
+
+pub returns-in_err-check_target-clause-leads : goal.returns-in_err-check_target-clause-leads
+returns-in_err-check_target-clause-leads g t c =
+    rw (handed c.from_residual-in_err-check_target.result c.in_err-check_target.field-0.0 c.from_residual-in_err-check_target.ensures.1) tt
+
+pub returns-in_err-check_target-clause-last : goal.returns-in_err-check_target-clause-last
+returns-in_err-check_target-clause-last g t c =
+    rw (handed c.from_residual-in_err-check_target.result c.in_err-check_target.field-0.0 c.from_residual-in_err-check_target.ensures.1) tt
+
+pub returns-in_err-first-clause-leads : goal.returns-in_err-first-clause-leads
+returns-in_err-first-clause-leads g t c =
+    rw (handed c.from_residual-in_err-first.result c.in_err-first.field-0.0 c.from_residual-in_err-first.ensures.1) tt
+
+pub returns-in_err-first-clause-last : goal.returns-in_err-first-clause-last
+returns-in_err-first-clause-last g t c =
+    rw (handed c.from_residual-in_err-first.result c.in_err-first.field-0.0 c.from_residual-in_err-first.ensures.1) tt
+
+pub leads_nowhere-requires-clause-level : goal.leads_nowhere-requires-clause-level
+leads_nowhere-requires-clause-level g t c = (rw c.in-Some.is at c.in_ok-found.ensures).ends.is.levels
+
+pub leads_nowhere-requires-clause-some : goal.leads_nowhere-requires-clause-some
+leads_nowhere-requires-clause-some g t c = (rw c.in-Some.is at c.in_ok-found.ensures).ends.is.some
+
+pub leads_nowhere-requires-clause-digit : goal.leads_nowhere-requires-clause-digit
+leads_nowhere-requires-clause-digit g t c = (rw c.in-Some.is at c.in_ok-found.ensures).ends.is.digits
+
+pub leads_nowhere-requires-clause-inside : goal.leads_nowhere-requires-clause-inside
+leads_nowhere-requires-clause-inside g t c = omega (arith, c.requires.inside)
+
+pub leads_nowhere-requires-then-from-span-clause-level : goal.leads_nowhere-requires-then-from-span-clause-level
+leads_nowhere-requires-then-from-span-clause-level g t c = (rw c.in-Some.is at c.in_ok-found.ensures).ends.is.levels
+
+pub leads_nowhere-requires-then-from-span-clause-some : goal.leads_nowhere-requires-then-from-span-clause-some
+leads_nowhere-requires-then-from-span-clause-some g t c = (rw c.in-Some.is at c.in_ok-found.ensures).ends.is.some
+
+pub leads_nowhere-requires-then-from-span-clause-digit : goal.leads_nowhere-requires-then-from-span-clause-digit
+leads_nowhere-requires-then-from-span-clause-digit g t c = (rw c.in-Some.is at c.in_ok-found.ensures).ends.is.digits
+
+pub leads_nowhere-requires-then-from-span-clause-inside : goal.leads_nowhere-requires-then-from-span-clause-inside
+leads_nowhere-requires-then-from-span-clause-inside g t c = omega (arith, c.requires.inside)
+
+pub first_at_least-requires : goal.first_at_least-requires
+first_at_least-requires g t c = omega (arith, c.in_ok-check_target.ensures.1)

@@ -93,3 +93,27 @@ returns g c = (
         pointer = inr (record { to = old; free = free; before = below.1; leads = below.2 });
       },
 )
+
+pub leads_nowhere-requires-clause-level : goal.leads_nowhere-requires-clause-level
+leads_nowhere-requires-clause-level g c = c.requires.place.levels
+
+pub leads_nowhere-requires-clause-some : goal.leads_nowhere-requires-clause-some
+leads_nowhere-requires-clause-some g c = c.requires.place.some
+
+pub leads_nowhere-requires-clause-digit : goal.leads_nowhere-requires-clause-digit
+leads_nowhere-requires-clause-digit g c = c.requires.place.digits
+
+pub leads_nowhere-requires-clause-inside : goal.leads_nowhere-requires-clause-inside
+leads_nowhere-requires-clause-inside g c = omega (arith, c.requires.inside)
+
+pub pointer_cell-requires-clause-level : goal.pointer_cell-requires-clause-level
+pointer_cell-requires-clause-level g c = c.requires.place.levels
+
+pub pointer_cell-requires-clause-some : goal.pointer_cell-requires-clause-some
+pointer_cell-requires-clause-some g c = c.requires.place.some
+
+pub pointer_cell-requires-clause-digit : goal.pointer_cell-requires-clause-digit
+pointer_cell-requires-clause-digit g c = c.requires.place.digits
+
+pub pointer_cell-requires-clause-inside : goal.pointer_cell-requires-clause-inside
+pointer_cell-requires-clause-inside g c = omega (arith, c.requires.inside)

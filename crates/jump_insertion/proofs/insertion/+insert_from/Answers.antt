@@ -1,5 +1,5 @@
 -- Each ending, by the lemma of its kind.
-use Rattle.std.proofs.Common.{◌≡◌, ◌+◌, inr, arith, sym, ap, ◌∙◌, subst, Some, None, Ok, Err}
+use Rattle.std.proofs.Common.{◌≡◌, ◌+◌, inl, inr, refl, arith, sym, ap, ◌∙◌, subst, Some, None, Ok, Err}
 use Rattle.std.specs.Prelude.{IsTrue}
 use Rattle.cell_types.proofs.Passed.{handed}
 use Rattle.cell_pool.specs.declared.fault.GrowthFault.TheVariants as growth
@@ -314,3 +314,135 @@ returns-clause-planned g t c =
     c.args.insertion.list.head c.args.insertion.list.floor c.args.pool.now.next c.insert_from.new.pool.next (fields_of c.args.insertion.entry)
     (Ok (Some c.in-Some-placed.spot))
     (rw c.in-Some-placed.is at c.in_ok-placed.ensures.planned)
+
+pub first_at_least-requires : goal.first_at_least-requires
+first_at_least-requires g t c = omega (arith, c.requires.before, c.requires.posting.room)
+
+pub returns-in_err-first-clause-pool : goal.returns-in_err-first-clause-pool
+returns-in_err-first-clause-pool g t c = inl refl
+
+pub returns-in_err-first-clause-none : goal.returns-in_err-first-clause-none
+returns-in_err-first-clause-none g t c =
+    rw (handed c.from_residual.result (growth.Fault c.in_err-first.field-0.0) c.from_residual.ensures.1) tt
+
+pub returns-in_err-first-clause-grows : goal.returns-in_err-first-clause-grows
+returns-in_err-first-clause-grows g t c =
+    rw (handed c.from_residual.result (growth.Fault c.in_err-first.field-0.0) c.from_residual.ensures.1) tt
+
+pub returns-in_err-first-clause-planned : goal.returns-in_err-first-clause-planned
+returns-in_err-first-clause-planned g t c =
+    rw (handed c.from_residual.result (growth.Fault c.in_err-first.field-0.0) c.from_residual.ensures.1) tt
+
+pub returns-in_err-put_posting-in-Open-clause-pool : goal.returns-in_err-put_posting-in-Open-clause-pool
+returns-in_err-put_posting-in-Open-clause-pool g t c = inl refl
+
+pub returns-in_err-put_posting-in-Open-clause-none : goal.returns-in_err-put_posting-in-Open-clause-none
+returns-in_err-put_posting-in-Open-clause-none g t c =
+    rw (handed c.from_residual-in_err-put_posting-in-Open.result c.in_err-put_posting-in-Open.field-0.0 c.from_residual-in_err-put_posting-in-Open.ensures.1) tt
+
+pub returns-in_err-put_posting-in-Open-clause-grows : goal.returns-in_err-put_posting-in-Open-clause-grows
+returns-in_err-put_posting-in-Open-clause-grows g t c =
+    rw (handed c.from_residual-in_err-put_posting-in-Open.result c.in_err-put_posting-in-Open.field-0.0 c.from_residual-in_err-put_posting-in-Open.ensures.1) tt
+
+pub returns-in_err-put_posting-in-Open-clause-planned : goal.returns-in_err-put_posting-in-Open-clause-planned
+returns-in_err-put_posting-in-Open-clause-planned g t c =
+    rw (handed c.from_residual-in_err-put_posting-in-Open.result c.in_err-put_posting-in-Open.field-0.0 c.from_residual-in_err-put_posting-in-Open.ensures.1) tt
+
+pub returns-in_err-led-clause-pool : goal.returns-in_err-led-clause-pool
+returns-in_err-led-clause-pool g t c = inl refl
+
+pub returns-in_err-led-clause-none : goal.returns-in_err-led-clause-none
+returns-in_err-led-clause-none g t c =
+    rw (handed c.from_residual-in_err-led.result (growth.Fault c.in_err-led.field-0.0) c.from_residual-in_err-led.ensures.1) tt
+
+pub returns-in_err-led-clause-grows : goal.returns-in_err-led-clause-grows
+returns-in_err-led-clause-grows g t c =
+    rw (handed c.from_residual-in_err-led.result (growth.Fault c.in_err-led.field-0.0) c.from_residual-in_err-led.ensures.1) tt
+
+pub returns-in_err-led-clause-planned : goal.returns-in_err-led-clause-planned
+returns-in_err-led-clause-planned g t c =
+    rw (handed c.from_residual-in_err-led.result (growth.Fault c.in_err-led.field-0.0) c.from_residual-in_err-led.ensures.1) tt
+
+pub returns-in_err-check_target-clause-pool : goal.returns-in_err-check_target-clause-pool
+returns-in_err-check_target-clause-pool g t c = inl refl
+
+pub returns-in_err-check_target-clause-none : goal.returns-in_err-check_target-clause-none
+returns-in_err-check_target-clause-none g t c =
+    rw (handed c.from_residual-in_err-check_target.result (growth.Fault c.in_err-check_target.field-0.0) c.from_residual-in_err-check_target.ensures.1) tt
+
+pub returns-in_err-check_target-clause-grows : goal.returns-in_err-check_target-clause-grows
+returns-in_err-check_target-clause-grows g t c =
+    rw (handed c.from_residual-in_err-check_target.result (growth.Fault c.in_err-check_target.field-0.0) c.from_residual-in_err-check_target.ensures.1) tt
+
+pub returns-in_err-check_target-clause-planned : goal.returns-in_err-check_target-clause-planned
+returns-in_err-check_target-clause-planned g t c =
+    rw (handed c.from_residual-in_err-check_target.result (growth.Fault c.in_err-check_target.field-0.0) c.from_residual-in_err-check_target.ensures.1) tt
+
+pub returns-in_err-placed-clause-pool : goal.returns-in_err-placed-clause-pool
+returns-in_err-placed-clause-pool g t c = c.insert_from.ensures.pool
+
+pub returns-in_err-placed-clause-none : goal.returns-in_err-placed-clause-none
+returns-in_err-placed-clause-none g t c =
+    rw (handed c.from_residual-in_err-placed.result c.in_err-placed.field-0.0 c.from_residual-in_err-placed.ensures.1) tt
+
+pub returns-in_err-placed-clause-grows : goal.returns-in_err-placed-clause-grows
+returns-in_err-placed-clause-grows g t c =
+    rw (handed c.from_residual-in_err-placed.result c.in_err-placed.field-0.0 c.from_residual-in_err-placed.ensures.1) tt
+
+pub returns-in_err-placed-clause-planned : goal.returns-in_err-placed-clause-planned
+returns-in_err-placed-clause-planned g t c =
+    rw (handed c.from_residual-in_err-placed.result c.in_err-placed.field-0.0 c.from_residual-in_err-placed.ensures.1) tt
+
+pub returns-in-At-clause-pool : goal.returns-in-At-clause-pool
+returns-in-At-clause-pool g t c = inl refl
+
+pub put_posting-requires-clause-well_formed : goal.put_posting-requires-clause-well_formed
+put_posting-requires-clause-well_formed g t c = c.requires.posting.well_formed
+
+pub returns-in-Open-clause-pool : goal.returns-in-Open-clause-pool
+returns-in-Open-clause-pool g t c = inl refl
+
+pub returns-then-from-within-clause-pool : goal.returns-then-from-within-clause-pool
+returns-then-from-within-clause-pool g t c = inl refl
+
+pub returns-then-from-within-clause-none : goal.returns-then-from-within-clause-none
+returns-then-from-within-clause-none g t c = omega (arith, c.if-from-within.true, c.from-2.ensures)
+
+pub span-to-requires : goal.span-to-requires
+span-to-requires g t c = (rw c.in-Full.is at c.in_ok-first.ensures).ends.0
+
+pub pointer-requires-clause-level : goal.pointer-requires-clause-level
+pointer-requires-clause-level g t c = c.span-to.ensures.is.levels
+
+pub pointer-requires-clause-some : goal.pointer-requires-clause-some
+pointer-requires-clause-some g t c = c.span-to.ensures.is.some
+
+pub pointer-requires-clause-digit : goal.pointer-requires-clause-digit
+pointer-requires-clause-digit g t c = c.span-to.ensures.is.digits
+
+pub pointer-requires-clause-inside : goal.pointer-requires-clause-inside
+pointer-requires-clause-inside g t c = omega (arith, c.requires.before, c.requires.posting.room)
+
+pub returns-in_default-clause-pool : goal.returns-in_default-clause-pool
+returns-in_default-clause-pool g t c = c.insert_behind.ensures.pool
+
+pub returns-in_default-clause-none : goal.returns-in_default-clause-none
+returns-in_default-clause-none g t c = c.insert_behind.ensures.none
+
+pub leads_nowhere-requires-clause-level : goal.leads_nowhere-requires-clause-level
+leads_nowhere-requires-clause-level g t c = c.span-to.ensures.is.levels
+
+pub leads_nowhere-requires-clause-some : goal.leads_nowhere-requires-clause-some
+leads_nowhere-requires-clause-some g t c = c.span-to.ensures.is.some
+
+pub leads_nowhere-requires-clause-digit : goal.leads_nowhere-requires-clause-digit
+leads_nowhere-requires-clause-digit g t c = c.span-to.ensures.is.digits
+
+pub leads_nowhere-requires-clause-inside : goal.leads_nowhere-requires-clause-inside
+leads_nowhere-requires-clause-inside g t c = omega (arith, c.requires.before, c.requires.posting.room)
+
+pub returns-in_default-placed-clause-pool : goal.returns-in_default-placed-clause-pool
+returns-in_default-placed-clause-pool g t c = c.insert_from.ensures.pool
+
+pub returns-clause-pool : goal.returns-clause-pool
+returns-clause-pool g t c = c.insert_from.ensures.pool
