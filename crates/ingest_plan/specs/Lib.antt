@@ -5,5 +5,6 @@ pub mod Journal
 pub mod Licensing
 pub mod Over
 pub mod Planning
+pub mod Readiness
 pub mod Rows
 pub mod Standing

@@ -33,8 +33,9 @@
 //! where nobody else wrote, and the slot and the edge are a horizon and an edge of the image (`PlanNamesCell`).
 //!
 //! Stands on `word_reader` and `term_tags`, which give the postings, and on `jump_insertion` and `hash_tree`, which
-//! insert one entry each. Begin with `plan.rt`, then `whole.rt` and `rows.rt`; `specs/Planning.antt` says what a plan
-//! means, `specs/Indexes.antt` and `specs/Rows.antt` what is planned for a whole index and for a row of postings.
+//! insert one entry each. Begin with `plan.rt`, then `whole.rt` and `rows.rt`; `specs/Readiness.antt` says what must be so
+//! before, `specs/Planning.antt` what a plan means, `specs/Indexes.antt` and `specs/Rows.antt` what is planned for a whole
+//! index and for a row of postings.
 #![tactic(auto)]
 
 mod journal;

@@ -1,10 +1,10 @@
 //! A row of postings.
-ghost use Rattle.std.specs.Prelude.{◌≡◌, ◌<◌, ◌≤◌, ◌+◌, ◌*◌, ◌%◌, ◌⊎◌, ℕ, None, IsTrue, length};
-ghost use Rattle.cell_pool.specs.Grants.{TakesFront, free_cells};
-ghost use Rattle.cell_types.specs.Layout.{all_lists, list_at, pool_at};
-ghost use Rattle.ingest_plan.specs.Rows.{AreInOrder, AreUntouched, InsertsRow};
+ghost use Rattle.std.specs.Prelude.{◌≡◌, ◌≤◌, ◌+◌, ◌*◌, ◌⊎◌, length};
+ghost use Rattle.cell_pool.specs.Grants.{TakesFront};
+ghost use Rattle.cell_types.specs.Layout.{list_at, pool_at};
+ghost use Rattle.ingest_plan.specs.Readiness.{IsReadyPosting, IsReadyRow};
+ghost use Rattle.ingest_plan.specs.Rows.{InsertsRow};
 ghost use Rattle.jump_insertion.specs.Inserting.{InsertsPosting};
-ghost use Rattle.jump_insertion.specs.Readiness.{IsReadyList};
 ghost use Rattle.worm_device.specs.Overlays.{of_overlay};
 
 use cell_pool::{GrowthFault, Pool};
@@ -24,13 +24,7 @@ pub fn insert_postings<V: View>(
     geometry: &Geometry,
     rows: &[ListedPosting],
 ) -> Result<(), GrowthFault>
-    requires order { AreInOrder geometry.now rows.now }
-    requires floor { pool_at geometry.now ≤ (of_overlay V.seen overlay.old).fresh }
-    requires fresh { (of_overlay V.seen overlay.old).fresh ≤ pool.old.next }
-    requires room { 256 * length rows.now ≤ free_cells pool.old }
-    requires free { (cell : ℕ) → pool.old.next ≤ cell → (of_overlay V.seen overlay.old).planned cell ≡ None }
-    requires untouched { IsTrue (of_overlay V.seen overlay.old).base.tells →
-        AreUntouched geometry.now (of_overlay V.seen overlay.old) }
+    requires { IsReadyRow geometry.now rows.now pool.old (of_overlay V.seen overlay.old) }
     ensures from { pool.old.next ≤ pool.new.next }
     ensures to { pool.new.next ≤ pool.old.next + 256 * length rows.now }
     ensures end { pool.new.end ≡ pool.old.end }
@@ -50,15 +44,7 @@ fn insert_one<V: View>(
     geometry: &Geometry,
     row: &ListedPosting,
 ) -> Result<Entry, GrowthFault>
-    requires list { row.now.list < all_lists geometry.now }
-    requires key { row.now.posting.key % 256 ≤ row.now.posting.last }
-    requires floor { pool_at geometry.now ≤ (of_overlay V.seen overlay.old).fresh }
-    requires fresh { (of_overlay V.seen overlay.old).fresh ≤ pool.old.next }
-    requires room { 256 ≤ free_cells pool.old }
-    requires free { (cell : ℕ) → pool.old.next ≤ cell → (of_overlay V.seen overlay.old).planned cell ≡ None }
-    requires ready { IsTrue (of_overlay V.seen overlay.old).base.tells →
-        IsReadyList (of_overlay V.seen overlay.old) (list_at geometry.now row.now.list) (pool_at geometry.now) pool.old.next
-        row.now.posting.key }
+    requires { IsReadyPosting geometry.now row.now pool.old (of_overlay V.seen overlay.old) }
     ensures pool { (pool.new ≡ pool.old) ⊎ TakesFront pool.old pool.new 256 pool.old.next }
     ensures inserts { InsertsPosting (list_at geometry.now row.now.list) (pool_at geometry.now)
         pool.old.next pool.new.next row.now.posting

@@ -1,12 +1,7 @@
 //! The whole index of one document.
-ghost use Rattle.std.specs.Prelude.{◌≡◌, ◌<◌, ◌≤◌, ◌+◌, ◌*◌, ℕ, None, IsTrue, length};
-ghost use Rattle.cell_pool.specs.Grants.{free_cells};
-ghost use Rattle.cell_types.specs.Layout.{pool_at};
-ghost use Rattle.cell_types.specs.declared.geometry.TheConstants.{MAX_SLOTS};
-ghost use Rattle.hash_tree.specs.Levels.{IsLedByChild, IsNodeWithin};
-ghost use Rattle.hash_tree.specs.Steps.{IsOpenOf};
+ghost use Rattle.std.specs.Prelude.{◌≤◌, ◌+◌, ◌*◌, length};
 ghost use Rattle.ingest_plan.specs.Indexes.{Indexes};
-ghost use Rattle.ingest_plan.specs.Rows.{AreInOrder};
+ghost use Rattle.ingest_plan.specs.Readiness.{IsReadyIndex};
 ghost use Rattle.worm_device.specs.Overlays.{of_overlay};
 
 use crate::rows::insert_postings;
@@ -29,17 +24,8 @@ pub fn insert_document<V: View>(
     place: Open,
     level: &Level,
 ) -> Result<(), GrowthFault>
-    requires slot { slot < MAX_SLOTS }
-    requires order { AreInOrder volume.now.geometry rows.now }
-    requires floor { pool_at volume.now.geometry ≤ (of_overlay V.seen overlay.old).fresh }
-    requires fresh { (of_overlay V.seen overlay.old).fresh ≤ pool.old.next }
-    requires room { 256 * length rows.now + 32 ≤ free_cells pool.old }
-    requires nothing { (cell : ℕ) → (of_overlay V.seen overlay.old).planned cell ≡ None }
-    requires number { level.now.number < 64 }
-    requires open_at { IsOpenOf volume.now.geometry level.now place }
-    requires within { IsNodeWithin volume.now.geometry (of_overlay V.seen overlay.old).fresh level.now.led_by }
-    requires led { IsTrue (of_overlay V.seen overlay.old).base.tells →
-        IsLedByChild (of_overlay V.seen overlay.old).lower level.now.led_by }
+    requires { IsReadyIndex volume.now.geometry slot rows.now level.now place pool.old
+        (of_overlay V.seen overlay.old) }
     ensures from { pool.old.next ≤ pool.new.next }
     ensures to { pool.new.next ≤ pool.old.next + 256 * length rows.now + 32 }
     ensures indexes { Indexes volume.now.geometry slot rows.now level.now place pool.old.next pool.new.next

@@ -5,7 +5,7 @@ use Rattle.cell_types.specs.Image.{Image}
 use Rattle.volume_meaning.specs.Blocks.{PostingFields, posting_record, InSpan, Leads, pointer_at}
 use Rattle.worm_device.specs.Counts.{IsStill}
 use Rattle.worm_device.specs.State.{DeviceState}
-use Rattle.worm_device.specs.Views.{ViewState, Viewed}
+use Rattle.worm_device.specs.Views.{ViewState, Viewed, IsView}
 use Rattle.worm_device.specs.declared.owner.Owner.{Owner}
 use Rattle.worm_device.proofs.Counting.{still_first, still_second}
 use Rattle.jump_block.specs.Fronts.{FirstEnds}
@@ -15,11 +15,17 @@ use Rattle.jump_block.specs.declared.spans.Span.{Span}
 use Rattle.jump_block.proofs.Knowing.{key_on}
 use Rattle.jump_block.specs.Pointing.{HasFull, HasPointer}
 use Rattle.cell_pool.specs.declared.fault.GrowthFault.{GrowthFault}
+use Rattle.cell_pool.specs.declared.pool.Pool.{Pool}
 use Rattle.jump_insertion.specs.Growing.{LeadsOnBy, ends, hops, PutsTwo, Grows, in_block, in_tail, in_new_block, IsLastBlock, IsLastFull}
+use Rattle.jump_insertion.specs.Inserting.{fields_of}
 use Rattle.jump_insertion.specs.Placing.{GrowEnds}
-use Rattle.jump_insertion.specs.Planning.{PutsRecord, PutsBoth}
+use Rattle.jump_insertion.specs.Planning.{PutsRecord}
 use Rattle.jump_insertion.specs.declared.entries.Spot.{Spot}
-use Rattle.jump_insertion.proofs.Placing.{IsHome, IsTarget, span_holds, spot_differs}
+use Rattle.jump_insertion.specs.Steps.{GrowsFrom, PutsWithPointer}
+use Rattle.jump_insertion.specs.UnderWay.{IsHome}
+use Rattle.jump_insertion.specs.declared.entries.Home.{Home}
+use Rattle.jump_insertion.specs.declared.entries.Insertion.{Insertion}
+use Rattle.jump_insertion.proofs.Placing.{IsTarget, span_holds, spot_differs}
 use Rattle.jump_insertion.proofs.Showing.{quiet_image}
 
 count_of : (a b : DeviceState) → b ≡ a → a.foreign_writes ≤ b.foreign_writes
@@ -44,40 +50,38 @@ grows_open floor next block place greatest p old mid new owner viewed read put =
     )
 
 -- the posting goes to another block, to which the pointer leads now
-pub grows_both : (head floor next to block l cost : ℕ) (p : PostingFields) (s : Span) (low bound : ℕ)
-    (old mid new : ViewState)
-    (spot : Spot) (owner home_owner : Owner) → IsHome old head floor next block l p s low bound
-    → IsTarget mid head floor next to p.key block spot → Viewed old mid
+pub grows_both : (pool : Pool) (i : Insertion) (full : Home) (to cost : ℕ) (old mid new : ViewState) (spot : Spot)
+    (sees : IsView old) → IsHome old pool i full → IsTarget mid i pool.next to full.visit.block spot → Viewed old mid
     → (IsTrue old.base.tells → mid.image ≡ old.image → IsStill old.base.foreign_writes mid.base.foreign_writes
-    → PutsTwo mid.image new.image block spot.block spot.place p → Grows mid.image new.image floor next to block p cost)
-    → (result : Result (Option Spot) GrowthFault)
-    → PutsBoth spot (pointer_at block s.level s.digit) p owner home_owner mid new result
-    → GrowEnds floor next to block p old new result
-grows_both head floor next to block l cost p s low bound old mid new spot owner home_owner home target viewed grown
-    (Ok (Some found)) both = λ tells still.
+    → PutsTwo mid.image new.image full.visit.block spot.block spot.place (fields_of i.entry)
+    → Grows mid.image new.image i.list.floor pool.next to full.visit.block (fields_of i.entry) cost)
+    → (result : Result (Option Spot) GrowthFault) → PutsWithPointer i full spot mid new result
+    → GrowsFrom i full.visit pool.next to old new result
+grows_both pool i full to cost old mid new spot sees home target viewed grown (Ok (Some found)) both = λ tells still.
     let two = both.ends.1 in
     let there = target.told (subst IsTrue (sym viewed.called.tells) tells) in
     let full_mid = key_on viewed.image (home.full tells) in
     let same : mid.image ≡ old.image = quiet_image viewed new.base.foreign_writes
     (count_of mid.base new.base both.base) still in
-    let P : Image → Type 0 = λ i. Grows i new.image floor next to block p cost in
-    let S : ℕ → Type 0 = λ n. InSpan n s.level s.digit p.key in
-    let puts : PutsTwo mid.image new.image block spot.block spot.place p = record {
+    let P : Image → Type 0 = λ x.
+    Grows x new.image i.list.floor pool.next to full.visit.block (fields_of i.entry) cost in
+    let S : ℕ → Type 0 = λ n. InSpan n full.to.level full.to.digit i.entry.key in
+    let pointer : ℕ = pointer_at full.visit.block full.to.level full.to.digit in
+    let puts : PutsTwo mid.image new.image full.visit.block spot.block spot.place (fields_of i.entry) = record {
       mid = two.mid.image;
-      level = s.level;
-      digit = s.digit;
+      level = full.to.level;
+      digit = full.to.digit;
       greatest = full_mid.p;
       full = full_mid.in_front;
-      span = subst S (sym full_mid.same) (span_holds home.is home.span_from home.span_to);
+      span = subst S (sym full_mid.same) (span_holds home.span home.from home.below);
       in_places = target.in_places;
       adds = record { was = there.blank; others = λ c differ. (two.posting.others c differ).0 };
       posting = two.posting.ends.shown;
       rises = there.rises;
       adds_jump = record {
-        was = (two.posting.others (pointer_at block s.level s.digit)
-            (λ e. spot_differs head floor next to block l p s low bound old mid new spot home target viewed tells
-            (sym e))).0
-            ∙ ap (λ (f : Image). f (pointer_at block s.level s.digit)) same ∙ home.blank tells;
+        was = (two.posting.others pointer
+            (λ e. spot_differs pool i full to old mid new spot sees home target viewed tells (sym e))).0
+            ∙ ap (λ (f : Image). f pointer) same ∙ home.blank tells;
         others = λ c differ. (two.jump.others c differ).0;
       };
       jump = two.jump.ends.shown;
@@ -86,10 +90,8 @@ grows_both head floor next to block l cost p s low bound old mid new spot owner 
       subst P same (grown tells same (still_first viewed.called.foreign_writes
           (count_of mid.base new.base both.base) still) puts),
     )
-grows_both head floor next to block l cost p s low bound old mid new spot owner home_owner home target viewed grown
-    (Ok None) both = tt
-grows_both head floor next to block l cost p s low bound old mid new spot owner home_owner home target viewed grown
-    (Err fault) both = tt
+grows_both pool i full to cost old mid new spot sees home target viewed grown (Ok None) both = tt
+grows_both pool i full to cost old mid new spot sees home target viewed grown (Err fault) both = tt
 
 -- the tail has a blank place
 pub grown_in_tail : (floor next block : ℕ) (p : PostingFields) (mid new : ViewState) (spot : Spot)

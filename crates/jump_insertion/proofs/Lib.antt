@@ -13,6 +13,7 @@ mod Naming
 pub mod Others
 mod Placing
 mod Planned
+mod Putting
 mod Readying
 mod Searching
 mod Showing

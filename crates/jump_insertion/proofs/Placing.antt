@@ -23,12 +23,19 @@ use Rattle.jump_block.specs.declared.spans.Span.{Span}
 use Rattle.jump_block.proofs.Knowing.{key_on}
 use Rattle.jump_block.specs.Pointing.{HasFull, HasPointer, HasKeyIn}
 use Rattle.jump_block.proofs.OneBlock.{none_from_blank}
+use Rattle.cell_pool.specs.Grants.{TakesFront}
 use Rattle.cell_pool.specs.declared.fault.GrowthFault.{GrowthFault}
 use Rattle.cell_pool.specs.declared.fault.GrowthFault.TheVariants.{Fault, NoMemory}
-use Rattle.jump_insertion.specs.Hopping.{IsAt, IsSpot, HopFaultEnds}
+use Rattle.cell_pool.specs.declared.pool.Pool.{Pool}
+use Rattle.jump_insertion.specs.Hopping.{IsAt, IsSpot, HopFaultEnds, TailEnds}
+use Rattle.jump_insertion.specs.Inserting.{fields_of}
 use Rattle.jump_insertion.specs.Placing.{PlacesPosting}
-use Rattle.jump_insertion.specs.Planning.{PutsRecord, PutsBoth}
+use Rattle.jump_insertion.specs.Planning.{PutsRecord}
 use Rattle.jump_insertion.specs.Readiness.{IsOwnBlock, IsBlockReached, is_new, a_posting, a_pointer, IsReadyList}
+use Rattle.jump_insertion.specs.Steps.{PlacesFrom, PutsWithPointer}
+use Rattle.jump_insertion.specs.UnderWay.{IsHome}
+use Rattle.jump_insertion.specs.declared.entries.Home.{Home}
+use Rattle.jump_insertion.specs.declared.entries.Insertion.{Insertion}
 use Rattle.jump_insertion.specs.declared.entries.Spot.{Spot}
 use Rattle.jump_insertion.proofs.Growing.{next_front}
 use Rattle.jump_insertion.proofs.Naming.{fault_then, full_at_most}
@@ -124,31 +131,15 @@ into_open head floor next block low bound place greatest p old mid new view befo
           };
     }
 
--- the block that leads on to the posting is full, and its pointer for it was blank
-pub record IsHome (old : ViewState) (head floor next block l : ℕ) (p : PostingFields) (s : Span)
-    (low bound : ℕ) : Type 0 where
-  pub is : IsSpan l s
-  pub span_from : s.low ≤ p.key
-  pub span_to : p.key < s.high
-  pub from : low ≤ l
-  pub less : l < p.key
-  pub below : p.key < bound
-  pub before : head + 256 ≤ floor
-  pub lies : (block ≡ head) ⊎ (floor ≤ block)
-  pub inside : block + 256 ≤ next
-  pub view : IsView old
-  pub at : IsTrue old.base.tells → IsAt old head floor next p.key block
-  pub full : IsTrue old.base.tells → HasFull old.image block l
-  pub blank : IsTrue old.base.tells → old.image (pointer_at block s.level s.digit) ≡ None
-
 -- the posting may go to this place
-pub record IsTarget (mid : ViewState) (head floor next to key home : ℕ) (spot : Spot) : Type 0 where
-  pub from : floor ≤ spot.block
+pub record IsTarget (mid : ViewState) (i : Insertion) (next to home : ℕ) (spot : Spot) : Type 0 where
+  pub from : i.list.floor ≤ spot.block
   pub inside : spot.block + 256 ≤ to
   pub in_places : spot.place < 128
   pub more : next ≤ to
   pub view : IsView mid
-  pub told : IsTrue mid.base.tells → IsSpot mid head floor key home spot.block spot.place
+  pub told : IsTrue mid.base.tells
+      → IsSpot mid i.list.head i.list.floor i.entry.key home spot.block spot.place
 
 -- a state that shows this image over this one
 abbrev pub with_image : ViewState → Image → Image → ViewState
@@ -198,226 +189,226 @@ span_key is has = record {
 }
 
 -- what is written or planned behind a full block
-module _ (head floor next to block l : ℕ) (p : PostingFields) (s : Span) (low bound : ℕ) (old mid new : ViewState)
-    (spot : Spot)
-    (home : IsHome old head floor next block l p s low bound)
-    (target : IsTarget mid head floor next to p.key block spot)
-    (viewed : Viewed old mid) where
-  -- the target is another block
-  pub spot_apart : IsTrue old.base.tells → AreApart spot.block 256 block 256
-  spot_apart tells =
-      let there = target.told (subst IsTrue (sym viewed.called.tells) tells) in
-      let full_mid = key_on viewed.image (home.full tells) in
-      ⊎_elim
-      (λ (same : spot.block ≡ block). absurd (omega (
-        arith,
-        none_from_blank mid.image block spot.place 127 full_mid.p
-            (subst (λ b. mid.image (b + spot.place) ≡ None) same there.blank) full_mid.in_front,
-        target.in_places,
-      )))
-      (λ apart. apart)
-      there.apart
-
-  pub spot_differs : IsTrue old.base.tells → spot.block + spot.place ≢ pointer_at block s.level s.digit
-  spot_differs tells = λ e.
-      places_differ spot.block block spot.place s.level s.digit
-      (spot_apart tells) target.in_places home.is.levels home.is.some home.is.digits e
-
-  pub spot_free : IsTrue old.base.tells → mid.planned (spot.block + spot.place) ≡ None
-  spot_free tells = blank_is_free mid target.view (spot.block + spot.place)
-      (target.told (subst IsTrue (sym viewed.called.tells) tells)).blank
-
-  pub pointer_free : IsTrue old.base.tells → mid.planned (pointer_at block s.level s.digit) ≡ None
-  pointer_free tells = ap (λ (f : Image). f (pointer_at block s.level s.digit)) viewed.planned
-      ∙ blank_is_free old home.view (pointer_at block s.level s.digit) (home.blank tells)
-
-  module _ (put_at : ViewState) (owner home_owner : Owner) (is_head : owner.head ≡ head)
-      (is_base : owner.base ≡ spot.block)
-      (is_home_head : home_owner.head ≡ head) (is_home_base : home_owner.base ≡ block)
-      (put : PutsRecord (spot.block + spot.place) (posting_record p) owner mid put_at (Ok tt))
-      (led : PutsRecord (pointer_at block s.level s.digit) (Jump spot.block) home_owner put_at new (Ok tt))
-      (tells : IsTrue old.base.tells) where
-    there : IsSpot mid head floor p.key block spot.block spot.place
-    there = target.told (subst IsTrue (sym viewed.called.tells) tells)
-
-    at_old : IsAt old head floor next p.key block
-    at_old = home.at tells
-
-    grown : Extends old.image new.image
-    grown = record {
-      keeps = λ c v h.
-          let at_mid = viewed.image.keeps c v h in
-          let not_pointer : c ≢ pointer_at block s.level s.digit =
-          λ e. none-some v (sym (home.blank tells) ∙ ap old.image (sym e) ∙ h) in
-          let not_at : c ≢ spot.block + spot.place =
-          λ e. none-some v (sym there.blank ∙ ap mid.image (sym e) ∙ at_mid) in
-          (led.others c not_pointer).0 ∙ (put.others c not_at).0 ∙ at_mid;
-    }
-
-    holds_new : Holds new.image (spot.block + spot.place) (posting_record p)
-    holds_new = record {
-      cell = put.ends.shown.cell;
-      stands = (led.others (spot.block + spot.place) (spot_differs tells)).0 ∙ put.ends.shown.stands;
-      is = put.ends.shown.is;
-    }
-
-    -- the posting is in the target's front
-    into : InFront new.image spot.block spot.place p
-    into =
-        let front_kept : Extends mid.image put_at.image = adding_extends (λ c d. (put.others c d).0) there.blank in
-        next_front new.image spot.block spot.place p
-        (λ before h.
-        let q = there.rises before h in (
-          q.0,
-          front_past put_at.image new.image spot.block block s.level s.digit (spot_apart tells)
-              (omega (arith, h, target.in_places)) home.is.levels home.is.some home.is.digits
-              (λ c d. (led.others c d).0) (front_on front_kept q.1),
-          q.2,
-        ))
-        holds_new
-
-    has : HasKeyIn new.image spot.block s.low s.high
-    has = record {
-      place = spot.place;
-      p = p;
-      in_places = target.in_places;
-      in_front = into;
-      from = home.span_from;
-      below = home.span_to;
-    }
-
-    full_new : HasFull new.image block l
-    full_new = key_on grown (home.full tells)
-
-    lower_mid : Extends mid.lower new.lower
-    lower_mid = same_extends mid.lower new.lower (led.lower ∙ put.lower)
-
-    -- The states that lead from what was shown at first to what is shown in the end: nobody's cell that was written
-    -- meanwhile below a planned one counts.
-    abbrev first : ViewState
-    first = with_image mid old.image mid.lower
-
-    abbrev second : ViewState
-    second = with_image put_at new.image new.lower
-
-    ready_first : IsReadyList first head floor next p.key
-    ready_first = ready_same old first head floor next p.key
-        (extends_self old.image) viewed.lower viewed.fresh viewed.owners at_old.ready
-
-    own_target : IsOwnBlock first head spot.block
-    own_target = record { inside = there.own_block.inside; apart = there.own_block.apart }
-
-    own_home : IsOwnBlock first head block
-    own_home = own_block_same old first head floor next p.key
-        (extends_self old.image) viewed.lower viewed.fresh viewed.owners block at_old.own_block
-
-    ready_second : (key : ℕ) → p.key < key → IsReadyList second head floor to key
-    ready_second key greater =
-        ready_put first second head floor next to p.key key (spot.block + spot.place) spot.block owner is_head is_base
-        (λ c d. (put.others c d).2) put.ends.for_whom (target.view.unowned (spot.block + spot.place) put.ends.free)
-        grown lower_mid put.fresh (omega arith) (omega (arith, target.in_places)) ready_first target.more
-        (omega (arith, greater)) target.inside
-        (apart_from_head home.before (inr target.from)) own_target
-        (reached_as mid first head floor (extends_self mid.lower) refl spot.block there.reached)
-        (a_posting spot.place p refl target.in_places into greater)
-
-    own_second : (key : ℕ) → p.key < key → IsOwnBlock second head block
-    own_second key greater =
-        own_block_put first second head floor next to p.key key
-        (spot.block + spot.place) spot.block owner is_head is_base
-        (λ c d. (put.others c d).2) put.ends.for_whom (target.view.unowned (spot.block + spot.place) put.ends.free)
-        grown lower_mid put.fresh (omega arith) (omega (arith, target.in_places)) block
-        (inr (spot_apart tells)) own_home
-
-    reached_second : IsBlockReached second head floor block
-    reached_second = reached_as old second head floor (extends_then viewed.lower lower_mid)
-        (put.fresh ∙ viewed.fresh) block at_old.reached
-
-    pub placed_ready : (key : ℕ) → p.key < key → IsReadyList new head floor to key
-    placed_ready key greater =
-        ready_put second new head floor to to key key
-        (pointer_at block s.level s.digit) block home_owner is_home_head is_home_base
-        (λ c d. (led.others c d).2) led.ends.for_whom (unowned_pointer led.ends.free)
-        (extends_self new.image) (extends_self new.lower) led.fresh (omega arith)
-        (omega (arith, home.is.levels, home.is.digits))
-        (ready_second key greater) (omega arith) (omega arith) (omega (arith, home.inside, target.more))
-        (apart_from_head home.before home.lies) (own_second key greater) reached_second
-        (a_pointer s.level s.digit spot.block l (spot.block + spot.place) owner
-        (record { levels = home.is.levels; some = home.is.some; digits = home.is.digits }) refl led.ends.shown
-        target.from target.inside
-        full_new (span_key home.is has)
-        ((led.others (spot.block + spot.place) (spot_differs tells)).2 ∙ put.ends.for_whom) is_head is_base)
-      where
-        unowned_pointer : put_at.planned (pointer_at block s.level s.digit) ≡ None
-            → put_at.owners (pointer_at block s.level s.digit) ≡ None
-        unowned_pointer free =
-            let other : pointer_at block s.level s.digit ≢ spot.block + spot.place = λ e. spot_differs tells (sym e) in
-            (put.others (pointer_at block s.level s.digit) other).2
-            ∙ target.view.unowned (pointer_at block s.level s.digit) (pointer_free tells)
-
-    pub placed_hop : Hop new.image floor to block p.key spot.block
-    placed_hop = hop_to new.image floor to block l spot.block p s full_new home.is home.span_from home.span_to
-        led.ends.shown target.from target.inside has
-
-    pub placed_grown : Extends old.image new.image
-    placed_grown = grown
-
-    pub placed_into : InFront new.image spot.block spot.place p
-    placed_into = into
-
-    pub placed_key : HasKeyIn new.image block low bound
-    placed_key = full_has_key full_new home.from (omega (arith, home.less, home.below))
-
-  -- the call that plans both
-  pub both_places : (result : Result (Option Spot) GrowthFault)
-      → PutsBoth spot (pointer_at block s.level s.digit) p (record { head = head; base = spot.block })
-      (record { head = head; base = block }) mid new result
-      → PlacesPosting head floor to block p low bound old new result
-  both_places (Ok (Some found)) both = record {
-    called = called_on viewed.called both.base;
-    cells = both.cells ∙ viewed.cells;
-    fresh = both.fresh ∙ viewed.fresh;
-    loans = both.loans ∙ viewed.loans;
-    lower = extends_then viewed.lower (same_extends mid.lower new.lower both.lower);
-    quiet = quiet_on viewed both.base;
-    ends = λ tells.
-        let two = both.ends.1 in
-        let owner : Owner = record { head = head; base = spot.block } in
-        let home_owner : Owner = record { head = head; base = block } in
+module _ (pool : Pool) (i : Insertion) (full : Home) (to : ℕ) (old mid new : ViewState) (spot : Spot) (sees : IsView old)
+    (home : IsHome old pool i full) (target : IsTarget mid i pool.next to full.visit.block spot) (viewed : Viewed old mid)
+  where
+    -- the target is another block
+    pub spot_apart : IsTrue old.base.tells → AreApart spot.block 256 full.visit.block 256
+    spot_apart tells =
         let there = target.told (subst IsTrue (sym viewed.called.tells) tells) in
-        record {
-          shown = placed_grown two.mid owner home_owner refl refl refl refl two.posting two.jump tells;
-          trail = on block spot.block
-              (placed_hop two.mid owner home_owner refl refl refl refl two.posting two.jump tells)
-              (here spot.block spot.place (ap (λ (x : Spot). x.block + x.place) both.ends.0) target.in_places
-              (placed_into two.mid owner home_owner refl refl refl refl two.posting two.jump tells));
-          has = placed_key two.mid owner home_owner refl refl refl refl two.posting two.jump tells;
-          ready = placed_ready two.mid owner home_owner refl refl refl refl two.posting two.jump tells;
-        };
-  }
-  both_places (Ok None) both = absurd both.ends
-  both_places (Err (Fault Failed)) both = absurd both.ends
-  both_places (Err (Fault (Tampered e))) both = record {
-    called = called_on viewed.called both.base;
-    cells = both.cells ∙ viewed.cells;
-    fresh = both.fresh ∙ viewed.fresh;
-    loans = both.loans ∙ viewed.loans;
-    lower = extends_then viewed.lower (same_extends mid.lower new.lower both.lower);
-    quiet = quiet_on viewed both.base;
-    ends = (
-      λ tells. absurd (both.ends (spot_free tells) (pointer_free tells) (spot_differs tells)),
-      λ tells. absurd (both.ends (spot_free tells) (pointer_free tells) (spot_differs tells)),
-    );
-  }
-  both_places (Err NoMemory) both = record {
-    called = called_on viewed.called both.base;
-    cells = both.cells ∙ viewed.cells;
-    fresh = both.fresh ∙ viewed.fresh;
-    loans = both.loans ∙ viewed.loans;
-    lower = extends_then viewed.lower (same_extends mid.lower new.lower both.lower);
-    quiet = quiet_on viewed both.base;
-    ends = tt;
-  }
+        let full_mid = key_on viewed.image (home.full tells) in
+        ⊎_elim
+        (λ (same : spot.block ≡ full.visit.block). absurd (omega (
+          arith,
+          none_from_blank mid.image full.visit.block spot.place 127 full_mid.p
+              (subst (λ b. mid.image (b + spot.place) ≡ None) same there.blank) full_mid.in_front,
+          target.in_places,
+        )))
+        (λ apart. apart)
+        there.apart
+
+    pub spot_differs : IsTrue old.base.tells → spot.block + spot.place ≢ pointer_at full.visit.block full.to.level full.to.digit
+    spot_differs tells = λ e.
+        places_differ spot.block full.visit.block spot.place full.to.level full.to.digit
+        (spot_apart tells) target.in_places home.span.levels home.span.some home.span.digits e
+
+    pub spot_free : IsTrue old.base.tells → mid.planned (spot.block + spot.place) ≡ None
+    spot_free tells = blank_is_free mid target.view (spot.block + spot.place)
+        (target.told (subst IsTrue (sym viewed.called.tells) tells)).blank
+
+    pub pointer_free : IsTrue old.base.tells → mid.planned (pointer_at full.visit.block full.to.level full.to.digit) ≡ None
+    pointer_free tells = ap (λ (f : Image). f (pointer_at full.visit.block full.to.level full.to.digit)) viewed.planned
+        ∙ blank_is_free old sees (pointer_at full.visit.block full.to.level full.to.digit) (home.blank tells)
+
+    module _ (put_at : ViewState) (owner home_owner : Owner) (is_head : owner.head ≡ i.list.head)
+        (is_base : owner.base ≡ spot.block)
+        (is_home_head : home_owner.head ≡ i.list.head) (is_home_base : home_owner.base ≡ full.visit.block)
+        (put : PutsRecord (spot.block + spot.place) (posting_record (fields_of i.entry)) owner mid put_at (Ok tt))
+        (led : PutsRecord (pointer_at full.visit.block full.to.level full.to.digit) (Jump spot.block) home_owner put_at new
+        (Ok tt))
+        (tells : IsTrue old.base.tells) where
+      there : IsSpot mid i.list.head i.list.floor i.entry.key full.visit.block spot.block spot.place
+      there = target.told (subst IsTrue (sym viewed.called.tells) tells)
+
+      at_old : IsAt old i.list.head i.list.floor pool.next i.entry.key full.visit.block
+      at_old = home.visit.at tells
+
+      grown : Extends old.image new.image
+      grown = record {
+        keeps = λ c v h.
+            let at_mid = viewed.image.keeps c v h in
+            let not_pointer : c ≢ pointer_at full.visit.block full.to.level full.to.digit =
+            λ e. none-some v (sym (home.blank tells) ∙ ap old.image (sym e) ∙ h) in
+            let not_at : c ≢ spot.block + spot.place =
+            λ e. none-some v (sym there.blank ∙ ap mid.image (sym e) ∙ at_mid) in
+            (led.others c not_pointer).0 ∙ (put.others c not_at).0 ∙ at_mid;
+      }
+
+      holds_new : Holds new.image (spot.block + spot.place) (posting_record (fields_of i.entry))
+      holds_new = record {
+        cell = put.ends.shown.cell;
+        stands = (led.others (spot.block + spot.place) (spot_differs tells)).0 ∙ put.ends.shown.stands;
+        is = put.ends.shown.is;
+      }
+
+      -- the posting is in the target's front
+      into : InFront new.image spot.block spot.place (fields_of i.entry)
+      into =
+          let front_kept : Extends mid.image put_at.image = adding_extends (λ c d. (put.others c d).0) there.blank in
+          next_front new.image spot.block spot.place (fields_of i.entry)
+          (λ before h.
+          let q = there.rises before h in (
+            q.0,
+            front_past put_at.image new.image spot.block full.visit.block full.to.level full.to.digit (spot_apart tells)
+                (omega (arith, h, target.in_places)) home.span.levels home.span.some home.span.digits
+                (λ c d. (led.others c d).0) (front_on front_kept q.1),
+            q.2,
+          ))
+          holds_new
+
+      has : HasKeyIn new.image spot.block full.to.low full.to.high
+      has = record {
+        place = spot.place;
+        p = (fields_of i.entry);
+        in_places = target.in_places;
+        in_front = into;
+        from = home.from;
+        below = home.below;
+      }
+
+      full_new : HasFull new.image full.visit.block full.greatest_key
+      full_new = key_on grown (home.full tells)
+
+      lower_mid : Extends mid.lower new.lower
+      lower_mid = same_extends mid.lower new.lower (led.lower ∙ put.lower)
+
+      -- The states that lead from what was shown at first to what is shown in the end: nobody's cell that was written
+      -- meanwhile below a planned one counts.
+      abbrev first : ViewState
+      first = with_image mid old.image mid.lower
+
+      abbrev second : ViewState
+      second = with_image put_at new.image new.lower
+
+      ready_first : IsReadyList first i.list.head i.list.floor pool.next i.entry.key
+      ready_first = ready_same old first i.list.head i.list.floor pool.next i.entry.key
+          (extends_self old.image) viewed.lower viewed.fresh viewed.owners at_old.ready
+
+      own_target : IsOwnBlock first i.list.head spot.block
+      own_target = record { inside = there.own_block.inside; apart = there.own_block.apart }
+
+      own_home : IsOwnBlock first i.list.head full.visit.block
+      own_home = own_block_same old first i.list.head i.list.floor pool.next i.entry.key
+          (extends_self old.image) viewed.lower viewed.fresh viewed.owners full.visit.block at_old.own_block
+
+      ready_second : (key : ℕ) → i.entry.key < key → IsReadyList second i.list.head i.list.floor to key
+      ready_second key greater =
+          ready_put first second i.list.head i.list.floor pool.next to i.entry.key key
+          (spot.block + spot.place) spot.block owner is_head is_base
+          (λ c d. (put.others c d).2) put.ends.for_whom (target.view.unowned (spot.block + spot.place) put.ends.free)
+          grown lower_mid put.fresh (omega arith) (omega (arith, target.in_places)) ready_first target.more
+          (omega (arith, greater)) target.inside
+          (apart_from_head home.visit.posting.head (inr target.from)) own_target
+          (reached_as mid first i.list.head i.list.floor (extends_self mid.lower) refl spot.block there.reached)
+          (a_posting spot.place (fields_of i.entry) refl target.in_places into greater)
+
+      own_second : (key : ℕ) → i.entry.key < key → IsOwnBlock second i.list.head full.visit.block
+      own_second key greater =
+          own_block_put first second i.list.head i.list.floor pool.next to i.entry.key key
+          (spot.block + spot.place) spot.block owner is_head is_base
+          (λ c d. (put.others c d).2) put.ends.for_whom (target.view.unowned (spot.block + spot.place) put.ends.free)
+          grown lower_mid put.fresh (omega arith) (omega (arith, target.in_places)) full.visit.block
+          (inr (spot_apart tells)) own_home
+
+      reached_second : IsBlockReached second i.list.head i.list.floor full.visit.block
+      reached_second = reached_as old second i.list.head i.list.floor (extends_then viewed.lower lower_mid)
+          (put.fresh ∙ viewed.fresh) full.visit.block at_old.reached
+
+      pub placed_ready : (key : ℕ) → i.entry.key < key → IsReadyList new i.list.head i.list.floor to key
+      placed_ready key greater =
+          ready_put second new i.list.head i.list.floor to to key key
+          (pointer_at full.visit.block full.to.level full.to.digit) full.visit.block home_owner is_home_head is_home_base
+          (λ c d. (led.others c d).2) led.ends.for_whom (unowned_pointer led.ends.free)
+          (extends_self new.image) (extends_self new.lower) led.fresh (omega arith)
+          (omega (arith, home.span.levels, home.span.digits))
+          (ready_second key greater) (omega arith) (omega arith) (omega (arith, home.visit.before, target.more))
+          (apart_from_head home.visit.posting.head home.visit.lies) (own_second key greater) reached_second
+          (a_pointer full.to.level full.to.digit spot.block full.greatest_key (spot.block + spot.place) owner
+          (record { levels = home.span.levels; some = home.span.some; digits = home.span.digits }) refl led.ends.shown
+          target.from target.inside
+          full_new (span_key home.span has)
+          ((led.others (spot.block + spot.place) (spot_differs tells)).2 ∙ put.ends.for_whom) is_head is_base)
+        where
+          unowned_pointer : put_at.planned (pointer_at full.visit.block full.to.level full.to.digit) ≡ None
+              → put_at.owners (pointer_at full.visit.block full.to.level full.to.digit) ≡ None
+          unowned_pointer free =
+              let other : pointer_at full.visit.block full.to.level full.to.digit ≢ spot.block + spot.place =
+              λ e. spot_differs tells (sym e) in
+              (put.others (pointer_at full.visit.block full.to.level full.to.digit) other).2
+              ∙ target.view.unowned (pointer_at full.visit.block full.to.level full.to.digit) (pointer_free tells)
+
+      pub placed_hop : Hop new.image i.list.floor to full.visit.block i.entry.key spot.block
+      placed_hop =
+          hop_to new.image i.list.floor to full.visit.block full.greatest_key spot.block (fields_of i.entry) full.to
+          full_new home.span home.from home.below led.ends.shown target.from target.inside has
+
+      pub placed_grown : Extends old.image new.image
+      placed_grown = grown
+
+      pub placed_into : InFront new.image spot.block spot.place (fields_of i.entry)
+      placed_into = into
+
+      pub placed_key : HasKeyIn new.image full.visit.block full.visit.within.low full.visit.within.high
+      placed_key = full_has_key full_new home.low (omega (arith, home.less, home.visit.high))
+
+    -- the call that plans both
+    pub both_places : (result : Result (Option Spot) GrowthFault)
+        → PutsWithPointer i full spot mid new result → PlacesFrom i full.visit to old new result
+    both_places (Ok (Some found)) both = record {
+      called = called_on viewed.called both.base;
+      cells = both.cells ∙ viewed.cells;
+      fresh = both.fresh ∙ viewed.fresh;
+      loans = both.loans ∙ viewed.loans;
+      lower = extends_then viewed.lower (same_extends mid.lower new.lower both.lower);
+      quiet = quiet_on viewed both.base;
+      ends = λ tells.
+          let two = both.ends.1 in
+          let owner : Owner = record { head = i.list.head; base = spot.block } in
+          let home_owner : Owner = record { head = i.list.head; base = full.visit.block } in
+          let there = target.told (subst IsTrue (sym viewed.called.tells) tells) in
+          record {
+            shown = placed_grown two.mid owner home_owner refl refl refl refl two.posting two.jump tells;
+            trail = on full.visit.block spot.block
+                (placed_hop two.mid owner home_owner refl refl refl refl two.posting two.jump tells)
+                (here spot.block spot.place (ap (λ (x : Spot). x.block + x.place) both.ends.0) target.in_places
+                (placed_into two.mid owner home_owner refl refl refl refl two.posting two.jump tells));
+            has = placed_key two.mid owner home_owner refl refl refl refl two.posting two.jump tells;
+            ready = placed_ready two.mid owner home_owner refl refl refl refl two.posting two.jump tells;
+          };
+    }
+    both_places (Ok None) both = absurd both.ends
+    both_places (Err (Fault Failed)) both = absurd both.ends
+    both_places (Err (Fault (Tampered e))) both = record {
+      called = called_on viewed.called both.base;
+      cells = both.cells ∙ viewed.cells;
+      fresh = both.fresh ∙ viewed.fresh;
+      loans = both.loans ∙ viewed.loans;
+      lower = extends_then viewed.lower (same_extends mid.lower new.lower both.lower);
+      quiet = quiet_on viewed both.base;
+      ends = (
+        λ tells. absurd (both.ends (spot_free tells) (pointer_free tells) (spot_differs tells)),
+        λ tells. absurd (both.ends (spot_free tells) (pointer_free tells) (spot_differs tells)),
+      );
+    }
+    both_places (Err NoMemory) both = record {
+      called = called_on viewed.called both.base;
+      cells = both.cells ∙ viewed.cells;
+      fresh = both.fresh ∙ viewed.fresh;
+      loans = both.loans ∙ viewed.loans;
+      lower = extends_then viewed.lower (same_extends mid.lower new.lower both.lower);
+      quiet = quiet_on viewed both.base;
+      ends = tt;
+    }
 
 -- a new block is one to go to
 pub new_spot : (s : ViewState) → IsView s → (head floor next key block : ℕ) → IsReadyList s head floor next key
@@ -432,6 +423,38 @@ new_spot s view head floor next key block ready fresh free before = record {
   apart = inr (inr before);
   blank = view.beyond (next + 0) (free (next + 0) (omega arith)) (omega (arith, fresh));
   rises = λ before h. absurd (omega (arith, h));
+}
+
+-- the pool grants a new block for the posting
+pub new_target : (pool granted : Pool) (i : Insertion) (full : Home) (target : ℕ) (old mid : ViewState) → IsView mid
+    → IsHome old pool i full → Viewed old mid → TakesFront pool granted 256 target
+    → IsTarget mid i pool.next granted.next full.visit.block (record { block = target; place = 0 })
+new_target pool granted i full target old mid view home viewed taken =
+    let posting = home.visit.posting in
+    record {
+      from = omega (arith, posting.floor, taken.first);
+      inside = omega (arith, taken.first, taken.next);
+      in_places = omega arith;
+      more = omega (arith, taken.next);
+      view = view;
+      told = λ tells. subst (λ n. IsSpot mid i.list.head i.list.floor i.entry.key full.visit.block n 0) (sym taken.first)
+          (new_spot mid view i.list.head i.list.floor pool.next i.entry.key full.visit.block
+          (ready_viewed viewed i.list.head i.list.floor pool.next i.entry.key
+          (home.visit.at (subst IsTrue viewed.called.tells tells)).ready)
+          (omega (arith, posting.fresh, viewed.fresh))
+          (λ x past. ap (λ (f : Image). f x) viewed.planned ∙ posting.free x past) home.visit.before);
+    }
+
+-- the list's tail has a blank place for it
+pub tail_target : (i : Insertion) (next home : ℕ) (old mid : ViewState) (spot : Spot) → IsView mid → Viewed old mid
+    → TailEnds i.list.head i.list.floor next i.entry.key home old mid (Ok (Some spot)) → IsTarget mid i next next home spot
+tail_target i next home old mid spot view viewed found = record {
+  from = found.1;
+  inside = found.2;
+  in_places = found.0;
+  more = omega arith;
+  view = view;
+  told = λ tells. found.3 (subst IsTrue viewed.called.tells tells);
 }
 
 -- the posting went behind the target

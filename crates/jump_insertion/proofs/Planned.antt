@@ -15,10 +15,15 @@ use Rattle.cell_pool.specs.Grants.{TakesFront}
 use Rattle.cell_pool.specs.declared.pool.Pool.{Pool}
 use Rattle.worm_device.specs.declared.owner.Owner.{Owner}
 use Rattle.cell_pool.specs.declared.fault.GrowthFault.{GrowthFault}
-use Rattle.jump_insertion.specs.Inserting.{IsPlannedInList, IsAsPlanned, PlansEntry, alone, with_pointer}
+use Rattle.jump_insertion.specs.Inserting.{IsPlannedInList, IsAsPlanned, PlansEntry, alone, with_pointer, fields_of}
 use Rattle.jump_insertion.specs.Placing.{HasPlanned, PlannedEnds}
-use Rattle.jump_insertion.specs.Planning.{PutsRecord, PlansTwo, PutsBoth}
+use Rattle.jump_insertion.specs.Planning.{PutsRecord, PlansTwo}
+use Rattle.jump_insertion.specs.Steps.{PlansCells, PutsWithPointer}
+use Rattle.jump_insertion.specs.UnderWay.{IsHome}
+use Rattle.jump_insertion.specs.declared.entries.Home.{Home}
+use Rattle.jump_insertion.specs.declared.entries.Insertion.{Insertion}
 use Rattle.jump_insertion.specs.declared.entries.Spot.{Spot}
+use Rattle.jump_insertion.proofs.Placing.{IsTarget}
 
 holds_as : {old new : Image} {at : ℕ} {r : RecordCell} → new at ≡ old at → Holds old at r → Holds new at r
 holds_as same h = record { cell = h.cell; stands = same ∙ h.stands; is = h.is }
@@ -112,25 +117,26 @@ planned_alone head floor to p old new spot in_places before lies blank free put 
 }
 
 -- the posting and a pointer to its block
-module _ (head floor next to home level digit : ℕ) (p : PostingFields) (old mid new : ViewState) (spot : Spot)
-    (viewed : Viewed old mid) (taken : (to ≡ next) ⊎ ((spot.block ≡ next) × (to ≡ next + 256)))
-    (in_places : spot.place < 128) (before : spot.block + 256 ≤ to) (home_before : home + 256 ≤ to)
-    (levels : level < 8) (digits : digit ≤ 15) (from : floor ≤ spot.block) (lies : (home ≡ head) ⊎ (floor ≤ home))
-    (blank : IsTrue old.base.tells → old.image (spot.block + spot.place) ≡ None)
-    (blank_pointer : IsTrue old.base.tells → old.image (pointer_at home level digit) ≡ None)
-    (free : (cell : ℕ) → to ≤ cell → old.planned cell ≡ None) where
-  module _ (two : PlansTwo spot (pointer_at home level digit) p (record { head = head; base = spot.block })
-      (record { head = head; base = home }) mid new) (base : new.base ≡ mid.base) where
+module _ (pool : Pool) (i : Insertion) (full : Home) (to : ℕ) (old mid new : ViewState) (spot : Spot)
+    (home : IsHome old pool i full) (target : IsTarget mid i pool.next to full.visit.block spot) (viewed : Viewed old mid)
+    (taken : (to ≡ pool.next) ⊎ ((spot.block ≡ pool.next) × (to ≡ pool.next + 256))) where
+  -- the posting's place was blank at first
+  blank : IsTrue old.base.tells → old.image (spot.block + spot.place) ≡ None
+  blank tells = blank_before viewed.image (target.told (subst IsTrue (sym viewed.called.tells) tells)).blank
+
+  module _ (two : PlansTwo spot (pointer_at full.visit.block full.to.level full.to.digit) (fields_of i.entry)
+      (record { head = i.list.head; base = spot.block }) (record { head = i.list.head; base = full.visit.block }) mid new)
+      (base : new.base ≡ mid.base) where
     later : mid.base.foreign_writes ≤ new.base.foreign_writes
     later = writes_on base
 
     -- the posting was planned first, and the pointer's cell was not planned then
-    differ : spot.block + spot.place ≢ pointer_at home level digit
+    differ : spot.block + spot.place ≢ pointer_at full.visit.block full.to.level full.to.digit
     differ e = none-some two.posting.ends.planned.cell
         (sym two.jump.ends.free ∙ ap two.mid.planned (sym e) ∙ two.posting.ends.planned.stands)
 
-    as_planned : (cell : ℕ) → cell ≢ spot.block + spot.place → cell ≢ pointer_at home level digit
-        → IsAsPlanned old new cell
+    as_planned : (cell : ℕ) → cell ≢ spot.block + spot.place
+        → cell ≢ pointer_at full.visit.block full.to.level full.to.digit → IsAsPlanned old new cell
     as_planned cell not_at not_pointer =
         let led = two.jump.others cell not_pointer in
         let put = two.posting.others cell not_at in
@@ -141,16 +147,15 @@ module _ (head floor next to home level digit : ℕ) (p : PostingFields) (old mi
               led.0 ∙ put.0 ∙ (rests_of viewed).shown (still_first viewed.called.foreign_writes later still) cell;
         }
 
-    has_both : HasPlanned head floor next to p spot old new
+    has_both : HasPlanned i.list.head i.list.floor pool.next to (fields_of i.entry) spot old new
     has_both =
-        let at : ℕ = spot.block + spot.place in
-        let pointer : ℕ = pointer_at home level digit in
+        let pointer : ℕ = pointer_at full.visit.block full.to.level full.to.digit in
         let led = two.jump.others (spot.block + spot.place) differ in
-        let put = two.posting.others (pointer_at home level digit) (λ e. differ (sym e)) in
+        let put = two.posting.others pointer (λ e. differ (sym e)) in
         record {
-          in_places = in_places;
-          before = before;
-          planned = with_pointer (pointer_at home level digit) spot.block
+          in_places = target.in_places;
+          before = target.inside;
+          planned = with_pointer pointer spot.block
               (record {
                 free = sym (planned_before viewed (spot.block + spot.place)) ∙ two.posting.ends.free;
                 blank = blank;
@@ -159,34 +164,42 @@ module _ (head floor next to home level digit : ℕ) (p : PostingFields) (old mi
                 block = spot.block;
                 for_whom = led.2 ∙ two.posting.ends.for_whom;
                 from = omega arith;
-                to = omega (arith, in_places);
-                where_blocks_lie = inr from;
+                to = omega (arith, target.in_places);
+                where_blocks_lie = inr target.from;
               })
               (record {
-                free = sym (planned_before viewed (pointer_at home level digit)) ∙ sym put.1 ∙ two.jump.ends.free;
-                blank = blank_pointer;
+                free = sym (planned_before viewed pointer) ∙ sym put.1 ∙ two.jump.ends.free;
+                blank = home.blank;
                 shown = two.jump.ends.shown;
                 held = two.jump.ends.planned;
-                block = home;
+                block = full.visit.block;
                 for_whom = two.jump.ends.for_whom;
                 from = omega arith;
-                to = omega (arith, levels, digits);
-                where_blocks_lie = lies;
+                to = omega (arith, home.span.levels, home.span.digits);
+                where_blocks_lie = home.visit.lies;
               })
               (λ e. differ (sym e)) as_planned taken;
           free = λ cell past.
-              (as_planned cell (λ (e : cell ≡ spot.block + spot.place). omega (arith, e, past, before, in_places))
-              (λ (e : cell ≡ pointer_at home level digit). omega (arith, e, past, home_before, levels, digits))).planned
-              ∙ free cell past;
+              (as_planned cell
+              (λ (e : cell ≡ spot.block + spot.place). omega (arith, e, past, target.inside, target.in_places))
+              (λ (e : cell ≡ pointer_at full.visit.block full.to.level full.to.digit). omega (
+                arith,
+                e,
+                past,
+                home.visit.before,
+                target.more,
+                home.span.levels,
+                home.span.digits,
+              ))).planned
+              ∙ home.visit.posting.free cell (omega (arith, past, target.more));
         }
 
-  pub planned_both : (result : Result (Option Spot) GrowthFault)
-      → PutsBoth spot (pointer_at home level digit) p (record { head = head; base = spot.block })
-      (record { head = head; base = home }) mid new result
-      → PlannedEnds head floor next to p old new result
+  pub planned_both : (result : Result (Option Spot) GrowthFault) → PutsWithPointer i full spot mid new result
+      → PlansCells i pool.next to old new result
   planned_both (Ok (Some found)) both =
-      let P : Spot → Type 0 = λ x. HasPlanned head floor next to p x old new in subst P (sym both.ends.0)
-      (has_both both.ends.1 both.base)
+      let P : Spot → Type 0 = λ x.
+      HasPlanned i.list.head i.list.floor pool.next to (fields_of i.entry) x old new in
+      subst P (sym both.ends.0) (has_both both.ends.1 both.base)
   planned_both (Ok None) both = tt
   planned_both (Err fault) both = tt
 

@@ -2,7 +2,9 @@
 use Rattle.std.proofs.Common.{◌≡◌, ◌≢◌, ◌<◌, ◌≤◌, ◌+◌, ◌⊎◌, ⊎_elim, inl, inr, ℕ, Option, Some, None, refl, ap, sym, subst, arith, ◌∙◌}
 use Rattle.std.proofs.lemmas.Bool.{cases_eq}
 use Rattle.std.proofs.lemmas.Option.{none-some}
-use Rattle.cell_types.specs.Image.{Extends}
+use Rattle.std.specs.Prelude.{IsTrue}
+use Rattle.cell_types.specs.Image.{Extends, Image}
+use Rattle.cell_pool.specs.declared.pool.Pool.{Pool}
 use Rattle.volume_meaning.specs.Blocks.{Leads}
 use Rattle.volume_meaning.specs.Nodes.{AreApart}
 use Rattle.volume_meaning.proofs.Fronts.{front_on}
@@ -13,6 +15,9 @@ use Rattle.jump_block.proofs.Knowing.{key_on}
 use Rattle.jump_block.specs.declared.spans.Span.{Span}
 use Rattle.jump_insertion.specs.Hopping.{IsAt, IsHop}
 use Rattle.jump_insertion.specs.Readiness.{IsOwnBlock, IsBlockReached, is_new, stands_below, IsListCell, a_posting, a_pointer, IsReadyList}
+use Rattle.jump_insertion.specs.UnderWay.{IsUnderWay, IsVisit}
+use Rattle.jump_insertion.specs.declared.entries.Insertion.{Insertion}
+use Rattle.jump_insertion.specs.declared.entries.Visit.{Visit}
 use Rattle.jump_insertion.proofs.Showing.{has_key_on, leads_on, some_same}
 
 pub reached_as : (s t : ViewState) (head floor : ℕ) → Extends s.lower t.lower → t.fresh ≡ s.fresh → (block : ℕ)
@@ -87,6 +92,31 @@ module _ {s t : ViewState} (viewed : Viewed s t) where
 pub at_target : {s : ViewState} {head floor next key block target : ℕ} {span : Span} → IsAt s head floor next key block
     → IsHop s head floor next key block span target → IsAt s head floor next key target
 at_target at hop = record { ready = at.ready; own_block = hop.own_block; reached = hop.reached }
+
+-- reads leave what may be planned
+pub under_way_viewed : {s t : ViewState} {pool : Pool} {insertion : Insertion} → Viewed s t
+    → IsUnderWay s pool insertion → IsUnderWay t pool insertion
+under_way_viewed viewed is = record {
+  well_formed = is.well_formed;
+  head = is.head;
+  floor = is.floor;
+  fresh = omega (arith, is.fresh, viewed.fresh);
+  room = is.room;
+  free = λ x past. ap (λ (f : Image). f x) viewed.planned ∙ is.free x past;
+}
+
+-- reads leave what was come to
+pub visit_viewed : {s t : ViewState} {pool : Pool} {insertion : Insertion} {visit : Visit} → Viewed s t
+    → IsVisit s pool insertion visit → IsVisit t pool insertion visit
+visit_viewed viewed is = record {
+  posting = under_way_viewed viewed is.posting;
+  low = is.low;
+  high = is.high;
+  narrow = is.narrow;
+  lies = is.lies;
+  before = is.before;
+  at = λ tells. at_viewed viewed (is.at (subst IsTrue viewed.called.tells tells));
+}
 
 turned : (a b : ℕ) → AreApart a 256 b 256 → AreApart b 256 a 256
 turned a b apart = ⊎_elim (λ before. inr before) (λ behind. inl behind) apart

@@ -10,3 +10,5 @@ pub mod Others
 pub mod Placing
 pub mod Planning
 pub mod Readiness
+pub mod Steps
+pub mod UnderWay

@@ -1,17 +1,17 @@
 //! Inserting a posting.
-ghost use Rattle.std.specs.Prelude.{◌≡◌, ◌<◌, ◌≤◌, ◌+◌, ◌%◌, ◌^◌, ◌⊎◌, ℕ, None, IfNone, IfOk, IsTrue};
+ghost use Rattle.std.specs.Prelude.{◌≡◌, ◌<◌, ◌≤◌, ◌+◌, ◌%◌, ◌⊎◌, ℕ, None, IfNone, IfOk, IsTrue};
 ghost use Rattle.cell_pool.specs.Grants.{TakesFront, free_cells};
 ghost use Rattle.volume_meaning.specs.declared.blocks.TheConstants.{BLOCK_CELLS};
-ghost use Rattle.volume_meaning.specs.Blocks.{pointer_at};
-ghost use Rattle.jump_block.specs.Spans.{IsSpan};
-ghost use Rattle.jump_block.specs.Pointing.{HasFull};
 ghost use Rattle.worm_device.specs.Overlays.{of_overlay};
-ghost use Rattle.jump_insertion.specs.Hopping.{IsAt};
 ghost use Rattle.jump_insertion.specs.Inserting.{InsertsPosting, fields_of};
-ghost use Rattle.jump_insertion.specs.Placing.{GrowEnds, PlacesPosting, PlannedEnds};
 ghost use Rattle.jump_insertion.specs.Readiness.{IsReadyList};
+ghost use Rattle.jump_insertion.specs.Steps.{GrowsFrom, PlacesFrom, PlansCells};
+ghost use Rattle.jump_insertion.specs.UnderWay.{IsHome, IsVisit};
 
-use crate::entries::{FullBlock, ListBlocks, ListWalk, NewEntry, Spot};
+use crate::entries::{
+    FullBlock, Home, Insertion, ListBlocks, ListWalk, NewEntry, Spot, TailSearch, TailStep, Visit,
+    WrittenPointer,
+};
 use crate::hops::{check_target, late_posting, tail};
 use crate::puts::{put_both, put_posting};
 use cell_pool::{GrowthFault, Pool};
@@ -50,8 +50,15 @@ pub fn insert<V: View>(
         high: 1 << 32,
     };
     let tag = new_entry.tag;
-    let list = ListBlocks { head, floor };
-    let placed = insert_from(overlay, pool, list, head, all, new_entry)?;
+    let insertion = Insertion {
+        list: ListBlocks { head, floor },
+        entry: new_entry,
+    };
+    let first = Visit {
+        block: head,
+        within: all,
+    };
+    let placed = insert_from(overlay, pool, insertion, first)?;
     // No key is below 0.
     let Some(spot) = placed else { unreachable!() };
     Ok(Entry {
@@ -68,42 +75,31 @@ pub fn insert<V: View>(
 fn insert_from<V: View>(
     overlay: &mut Overlay<'_, V>,
     pool: &mut Pool,
-    list: ListBlocks,
-    block: u32,
-    within: Span,
-    entry: NewEntry,
+    insertion: Insertion,
+    visit: Visit,
 ) -> Result<Option<Spot>, GrowthFault>
-    requires well_formed { entry.key % 256 ≤ entry.last }
-    requires low { within.low ≤ entry.key }
-    requires high { entry.key < within.high }
-    requires narrow { within.high ≤ within.low + 16 ^ within.level }
-    requires head { list.head + BLOCK_CELLS ≤ list.floor }
-    requires lies { (block ≡ list.head) ⊎ (list.floor ≤ block) }
-    requires before { block + BLOCK_CELLS ≤ pool.old.next }
-    requires room { BLOCK_CELLS ≤ free_cells pool.old }
-    requires floor { list.floor ≤ pool.old.next }
-    requires fresh { (of_overlay V.seen overlay.old).fresh ≤ pool.old.next }
-    requires free { (cell : ℕ) → pool.old.next ≤ cell → (of_overlay V.seen overlay.old).planned cell ≡ None }
-    requires at { IsTrue (of_overlay V.seen overlay.old).base.tells →
-        IsAt (of_overlay V.seen overlay.old) list.head list.floor pool.old.next entry.key block }
+    requires { IsVisit (of_overlay V.seen overlay.old) pool.old insertion visit }
     ensures pool { (pool.new ≡ pool.old) ⊎ TakesFront pool.old pool.new BLOCK_CELLS pool.old.next }
-    ensures none { IfOk result (λ spot. IfNone spot (0 < within.low)) }
-    ensures places { PlacesPosting list.head list.floor pool.new.next block (fields_of entry)
-        within.low within.high (of_overlay V.seen overlay.old) (of_overlay V.seen overlay.new) result }
-    ensures grows { GrowEnds list.floor pool.old.next pool.new.next block (fields_of entry)
+    ensures none { IfOk result (λ spot. IfNone spot (0 < visit.within.low)) }
+    ensures places { PlacesFrom insertion visit pool.new.next
         (of_overlay V.seen overlay.old) (of_overlay V.seen overlay.new) result }
-    ensures planned { PlannedEnds list.head list.floor pool.old.next pool.new.next (fields_of entry)
+    ensures grows { GrowsFrom insertion visit pool.old.next pool.new.next
+        (of_overlay V.seen overlay.old) (of_overlay V.seen overlay.new) result }
+    ensures planned { PlansCells insertion pool.old.next pool.new.next
         (of_overlay V.seen overlay.old) (of_overlay V.seen overlay.new) result }
 {
     // That the pool lies within an overlay's cells is known once its end is read.
     let _end = pool.end;
+    let entry = insertion.entry;
+    let block = visit.block;
+    let within = visit.within;
     let first = first_at_least(overlay, block, entry.key)?;
     let l = match first {
         Front::At(late) => return Err(GrowthFault::Fault(late_posting(&late))),
         Front::Open(place, _) => {
             let at = block + u32::from(place);
             let owner = Owner {
-                head: list.head,
+                head: insertion.list.head,
                 base: block,
             };
             put_posting(overlay, at, owner, entry)?;
@@ -117,19 +113,29 @@ fn insert_from<V: View>(
     let to = span(l, entry.key);
     let led = pointer(overlay, block, to.level, to.digit)?;
     let Some(target) = led else {
-        let full = FullBlock {
-            block,
+        let home = Home {
+            visit,
             greatest_key: l,
+            to,
         };
-        return insert_behind(overlay, pool, list, full, within, to, entry);
+        return insert_behind(overlay, pool, insertion, home);
     };
     let walk = ListWalk {
-        list,
+        list: insertion.list,
         next: pool.next,
         key: entry.key,
     };
-    check_target(overlay, walk, block, &to, target)?;
-    let placed = insert_from(overlay, pool, list, target, to, entry)?;
+    let led_by = WrittenPointer {
+        block,
+        span: to,
+        target,
+    };
+    check_target(overlay, walk, led_by)?;
+    let next = Visit {
+        block: target,
+        within: to,
+    };
+    let placed = insert_from(overlay, pool, insertion, next)?;
     let Some(spot) = placed else {
         return Err(GrowthFault::Fault(leads_nowhere(block, &to, target)));
     };
@@ -141,49 +147,38 @@ fn insert_from<V: View>(
 fn insert_behind<V: View>(
     overlay: &mut Overlay<'_, V>,
     pool: &mut Pool,
-    list: ListBlocks,
-    full: FullBlock,
-    within: Span,
-    to: Span,
-    entry: NewEntry,
+    insertion: Insertion,
+    home: Home,
 ) -> Result<Option<Spot>, GrowthFault>
-    requires well_formed { entry.key % 256 ≤ entry.last }
-    requires span { IsSpan full.greatest_key to }
-    requires from { to.low ≤ entry.key }
-    requires below { entry.key < to.high }
-    requires low { within.low ≤ full.greatest_key }
-    requires less { full.greatest_key < entry.key }
-    requires high { entry.key < within.high }
-    requires head { list.head + BLOCK_CELLS ≤ list.floor }
-    requires lies { (full.block ≡ list.head) ⊎ (list.floor ≤ full.block) }
-    requires before { full.block + BLOCK_CELLS ≤ pool.old.next }
-    requires room { BLOCK_CELLS ≤ free_cells pool.old }
-    requires floor { list.floor ≤ pool.old.next }
-    requires fresh { (of_overlay V.seen overlay.old).fresh ≤ pool.old.next }
-    requires free { (cell : ℕ) → pool.old.next ≤ cell → (of_overlay V.seen overlay.old).planned cell ≡ None }
-    requires at { IsTrue (of_overlay V.seen overlay.old).base.tells →
-        IsAt (of_overlay V.seen overlay.old) list.head list.floor pool.old.next entry.key full.block }
-    requires full { IsTrue (of_overlay V.seen overlay.old).base.tells →
-        HasFull (of_overlay V.seen overlay.old).image full.block full.greatest_key }
-    requires blank { IsTrue (of_overlay V.seen overlay.old).base.tells →
-        (of_overlay V.seen overlay.old).image (pointer_at full.block to.level to.digit) ≡ None }
+    requires { IsHome (of_overlay V.seen overlay.old) pool.old insertion home }
     ensures pool { (pool.new ≡ pool.old) ⊎ TakesFront pool.old pool.new BLOCK_CELLS pool.old.next }
-    ensures none { IfOk result (λ spot. IfNone spot (0 < within.low)) }
-    ensures places { PlacesPosting list.head list.floor pool.new.next full.block (fields_of entry)
-        within.low within.high (of_overlay V.seen overlay.old) (of_overlay V.seen overlay.new) result }
-    ensures grows { GrowEnds list.floor pool.old.next pool.new.next full.block (fields_of entry)
+    ensures none { IfOk result (λ spot. IfNone spot (0 < home.visit.within.low)) }
+    ensures places { PlacesFrom insertion home.visit pool.new.next
         (of_overlay V.seen overlay.old) (of_overlay V.seen overlay.new) result }
-    ensures planned { PlannedEnds list.head list.floor pool.old.next pool.new.next (fields_of entry)
+    ensures grows { GrowsFrom insertion home.visit pool.old.next pool.new.next
+        (of_overlay V.seen overlay.old) (of_overlay V.seen overlay.new) result }
+    ensures planned { PlansCells insertion pool.old.next pool.new.next
         (of_overlay V.seen overlay.old) (of_overlay V.seen overlay.new) result }
 {
     // That the pool lies within an overlay's cells is known once its end is read.
     let _end = pool.end;
-    let walk = ListWalk {
-        list,
-        next: pool.next,
-        key: entry.key,
+    let search = TailSearch {
+        walk: ListWalk {
+            list: insertion.list,
+            next: pool.next,
+            key: insertion.entry.key,
+        },
+        home: home.visit.block,
     };
-    let found = tail(overlay, walk, full.block, full, to.low, to.level + 1)?;
+    let step = TailStep {
+        full: FullBlock {
+            block: home.visit.block,
+            greatest_key: home.greatest_key,
+        },
+        bound: home.to.low,
+        level: home.to.level + 1,
+    };
+    let found = tail(overlay, search, step)?;
     let Some(spot) = found else {
         // There is room for a block.
         let Some(target) = pool.grant(BLOCK_CELLS) else {
@@ -193,7 +188,7 @@ fn insert_behind<V: View>(
             block: target,
             place: 0,
         };
-        return put_both(overlay, list.head, full.block, &to, spot, entry);
+        return put_both(overlay, insertion, home, spot);
     };
-    put_both(overlay, list.head, full.block, &to, spot, entry)
+    put_both(overlay, insertion, home, spot)
 }

@@ -28,7 +28,8 @@
 //!
 //! Stands on `cell_pool` for blocks and planned cells, on `jump_block` for a block and its pointers, and on
 //! `ingest_laws` for the shape that a list keeps. Begin with `insertion.rt`. `specs/Readiness.antt` says what may be
-//! planned before, `specs/Inserting.antt` what an insertion does, and `readiness.rt` what goes on to the next.
+//! planned before, `specs/UnderWay.antt` what holds on the way, by a record for each step, `specs/Inserting.antt` what an
+//! insertion does, and `readiness.rt` what goes on to the next.
 #![tactic(auto)]
 
 mod entries;

@@ -1,17 +1,17 @@
 //! A posting that is planned, and a pointer to its block.
-ghost use Rattle.std.specs.Prelude.{◌<◌, ◌≤◌, ◌+◌, ◌%◌, IfOk, IsSome};
-ghost use Rattle.volume_meaning.specs.declared.blocks.TheConstants.{BLOCK_CELLS, ENTRY_PLACES};
+ghost use Rattle.std.specs.Prelude.{◌<◌, ◌≤◌, ◌%◌, IfOk, IsSome};
 ghost use Rattle.cell_types.specs.Records.{IsWellFormed};
-ghost use Rattle.cell_types.specs.declared.record_cell.RecordCell.TheVariants.{Jump};
-ghost use Rattle.volume_meaning.specs.Blocks.{pointer_at, posting_record};
+ghost use Rattle.volume_meaning.specs.Blocks.{posting_record};
 ghost use Rattle.worm_device.specs.Overlays.{of_overlay};
 ghost use Rattle.jump_insertion.specs.Inserting.{fields_of};
-ghost use Rattle.jump_insertion.specs.Planning.{PutsBoth, PutsRecord};
+ghost use Rattle.jump_insertion.specs.Planning.{PutsRecord};
+ghost use Rattle.jump_insertion.specs.Steps.{PutsWithPointer};
+ghost use Rattle.jump_insertion.specs.UnderWay.{LieInOverlay};
 
-use crate::entries::{NewEntry, Spot};
+use crate::entries::{Home, Insertion, NewEntry, Spot};
 use cell_pool::{GrowthFault, PlanFault, plan_record};
 use cell_types::{RecordCell, breach};
-use jump_block::{Span, pointer_cell};
+use jump_block::pointer_cell;
 use tamper_rules::BLOCK_OUT_OF_ORDER;
 use worm_device::{OVERLAY_CELLS, Overlay, Owner, View};
 
@@ -60,35 +60,28 @@ pub(crate) fn put_posting<V: View>(
     put(overlay, at, posting, owner)
 }
 
-/// Plans a posting at a place of a block, and the span's pointer to that block in another, the home.
+/// Plans a posting at a place of a block, and a pointer to that block in its home.
 pub(crate) fn put_both<V: View>(
     overlay: &mut Overlay<'_, V>,
-    head: u32,
-    home: u32,
-    to: &Span,
+    insertion: Insertion,
+    home: Home,
     spot: Spot,
-    entry: NewEntry,
 ) -> Result<Option<Spot>, GrowthFault>
-    requires well_formed { entry.key % 256 ≤ entry.last }
-    requires level { to.now.level < 8 }
-    requires some { 1 ≤ to.now.digit }
-    requires digit { to.now.digit ≤ 15 }
-    requires inside { home + BLOCK_CELLS ≤ OVERLAY_CELLS }
-    requires place { spot.place < ENTRY_PLACES }
-    requires block { spot.block + BLOCK_CELLS ≤ OVERLAY_CELLS }
+    requires { LieInOverlay insertion home spot }
     ensures some { IfOk result (λ spot. IsSome spot) }
-    ensures puts { PutsBoth spot (pointer_at home to.now.level to.now.digit) (fields_of entry)
-        (record { head = head; base = spot.block }) (record { head = head; base = home })
-        (of_overlay V.seen overlay.old) (of_overlay V.seen overlay.new) result }
+    ensures puts { PutsWithPointer insertion home spot (of_overlay V.seen overlay.old) (of_overlay V.seen overlay.new)
+        result }
 {
+    let head = insertion.list.head;
     let at = spot.block + u32::from(spot.place);
     let owner = Owner {
         head,
         base: spot.block,
     };
-    put_posting(overlay, at, owner, entry)?;
+    put_posting(overlay, at, owner, insertion.entry)?;
     let jump = RecordCell::Jump { target: spot.block };
-    let pointer = pointer_cell(home, to.level, to.digit);
-    put(overlay, pointer, jump, Owner { head, base: home })?;
+    let block = home.visit.block;
+    let pointer = pointer_cell(block, home.to.level, home.to.digit);
+    put(overlay, pointer, jump, Owner { head, base: block })?;
     Ok(Some(spot))
 }

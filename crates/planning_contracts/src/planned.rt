@@ -1,17 +1,11 @@
 //! The index of a document, planned.
-ghost use Rattle.std.specs.Prelude.{◌≡◌, ◌<◌, ◌≤◌, ◌+◌, ◌*◌, ℕ, None, IfOk, IsTrue, length};
+ghost use Rattle.std.specs.Prelude.{◌≤◌, ◌+◌, ◌*◌, IfOk, length};
 ghost use Rattle.std.specs.BTreeMap.{get};
 ghost use Rattle.std.specs.Ordering.{nat_cmp};
-ghost use Rattle.cell_pool.specs.Grants.{free_cells};
-ghost use Rattle.cell_types.specs.Layout.{pool_at};
-ghost use Rattle.cell_types.specs.declared.geometry.TheConstants.{MAX_SLOTS};
-ghost use Rattle.hash_tree.specs.Levels.{IsLedByChild, IsNodeWithin};
-ghost use Rattle.hash_tree.specs.Steps.{IsOpenOf};
 ghost use Rattle.ingest_plan.specs.Indexes.{Indexes};
 ghost use Rattle.ingest_plan.specs.Journal.{IsJournal};
 ghost use Rattle.ingest_plan.specs.Planning.{PlansIndex};
-ghost use Rattle.ingest_plan.specs.Rows.{AreInOrder};
-ghost use Rattle.term_tags.specs.Listing.{MayHaveStamp};
+ghost use Rattle.ingest_plan.specs.Readiness.{IsReadyDevice, IsReadyIndex};
 ghost use Rattle.worm_device.specs.Overlays.{of_overlay};
 
 use cell_pool::{GrowthFault, Pool};
@@ -35,15 +29,7 @@ pub fn plan_index_again<D: Device>(
     stamp: Option<u32>,
     body: &[u8],
 ) -> Result<PlannedIndex, Refusal>
-    requires slot { slot < MAX_SLOTS }
-    requires stamp { MayHaveStamp volume.now.geometry stamp }
-    requires size { volume.now.geometry.cells ≤ (D.state device.old).cells }
-    requires from { pool_at volume.now.geometry ≤ edge }
-    requires to { edge ≤ volume.now.geometry.cells }
-    requires number { level.now.number < 64 }
-    requires open_at { IsOpenOf volume.now.geometry level.now place }
-    requires within { IsNodeWithin volume.now.geometry edge level.now.led_by }
-    requires led { IsTrue (D.state device.old).tells → IsLedByChild (D.state device.old).image level.now.led_by }
+    requires { IsReadyDevice volume.now.geometry slot edge level.now place stamp (D.state device.old) }
     ensures { PlansIndex volume.now.geometry slot edge level.now place stamp body.now (D.state device.old)
         (D.state device.new) result }
 {
@@ -60,17 +46,8 @@ pub fn insert_document_again<V: View>(
     place: Open,
     level: &Level,
 ) -> Result<(), GrowthFault>
-    requires slot { slot < MAX_SLOTS }
-    requires order { AreInOrder volume.now.geometry rows.now }
-    requires floor { pool_at volume.now.geometry ≤ (of_overlay V.seen overlay.old).fresh }
-    requires fresh { (of_overlay V.seen overlay.old).fresh ≤ pool.old.next }
-    requires room { 256 * length rows.now + 32 ≤ free_cells pool.old }
-    requires nothing { (cell : ℕ) → (of_overlay V.seen overlay.old).planned cell ≡ None }
-    requires number { level.now.number < 64 }
-    requires open_at { IsOpenOf volume.now.geometry level.now place }
-    requires within { IsNodeWithin volume.now.geometry (of_overlay V.seen overlay.old).fresh level.now.led_by }
-    requires led { IsTrue (of_overlay V.seen overlay.old).base.tells →
-        IsLedByChild (of_overlay V.seen overlay.old).lower level.now.led_by }
+    requires { IsReadyIndex volume.now.geometry slot rows.now level.now place pool.old
+        (of_overlay V.seen overlay.old) }
     ensures from { pool.old.next ≤ pool.new.next }
     ensures to { pool.new.next ≤ pool.old.next + 256 * length rows.now + 32 }
     ensures indexes { Indexes volume.now.geometry slot rows.now level.now place pool.old.next pool.new.next

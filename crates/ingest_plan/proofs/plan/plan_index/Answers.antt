@@ -12,7 +12,7 @@ pub plan_over-requires-clause-order : goal.plan_over-requires-clause-order
 plan_over-requires-clause-order g c =
     in_order c.args.volume.now.geometry c.args.stamp c.args.body.now c.args.slot c.deref-2.result.now
     (given c.args.volume.now.geometry c.args.stamp c.args.body.now c.args.slot c.in_ok-terms.terms.items c.deref.result.now
-    c.in_ok-rows.rows.items c.deref-2.result.now c.requires.stamp (rw (c.rule_of.ensures, c.version.ensures.version) at c.in_ok-terms.ensures) c.deref.ensures.value
+    c.in_ok-rows.rows.items c.deref-2.result.now c.requires.stamped (rw (c.rule_of.ensures, c.version.ensures.version) at c.in_ok-terms.ensures) c.deref.ensures.value
     (rw c.lists.ensures.lists at c.in_ok-rows.ensures.ok) c.deref-2.ensures.value)
 
 pub plan_over-requires-clause-few : goal.plan_over-requires-clause-few
@@ -21,7 +21,7 @@ plan_over-requires-clause-few g c =
       arith,
       few c.args.volume.now.geometry c.args.stamp c.args.body.now c.args.slot c.deref-2.result.now
           (given c.args.volume.now.geometry c.args.stamp c.args.body.now c.args.slot c.in_ok-terms.terms.items c.deref.result.now
-          c.in_ok-rows.rows.items c.deref-2.result.now c.requires.stamp (rw (c.rule_of.ensures, c.version.ensures.version) at c.in_ok-terms.ensures) c.deref.ensures.value
+          c.in_ok-rows.rows.items c.deref-2.result.now c.requires.stamped (rw (c.rule_of.ensures, c.version.ensures.version) at c.in_ok-terms.ensures) c.deref.ensures.value
           (rw c.lists.ensures.lists at c.in_ok-rows.ensures.ok) c.deref-2.ensures.value),
     )
 
@@ -30,7 +30,7 @@ returns g c =
     plans_index c.args.volume.now.geometry c.args.slot c.args.edge c.args.stamp c.args.body.now c.deref-2.result.now c.args.level.now c.args.place
     _ _ _ _ _
     (given c.args.volume.now.geometry c.args.stamp c.args.body.now c.args.slot c.in_ok-terms.terms.items c.deref.result.now
-    c.in_ok-rows.rows.items c.deref-2.result.now c.requires.stamp (rw (c.rule_of.ensures, c.version.ensures.version) at c.in_ok-terms.ensures) c.deref.ensures.value
+    c.in_ok-rows.rows.items c.deref-2.result.now c.requires.stamped (rw (c.rule_of.ensures, c.version.ensures.version) at c.in_ok-terms.ensures) c.deref.ensures.value
     (rw c.lists.ensures.lists at c.in_ok-rows.ensures.ok) c.deref-2.ensures.value)
     c.requires.to c.plan_over.ensures (ap (λ view. g.D.Device.state view.device.now) c.new-overlay.ensures.view ∙ ap (λ d. g.D.Device.state d) c.new.ensures.same)
     (ap (λ d. g.D.Device.state d) (grind (arith, common_steps))) refl

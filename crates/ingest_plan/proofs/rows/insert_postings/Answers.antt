@@ -35,20 +35,19 @@ returns-in_err-insert_one-clause-inserts g c =
     (here c.args.rows.now c.loop-row.row-index c.row-item.result c.loop-row-test.true c.row-item.is) c.loop-row.invariant
     c.in_err-insert_one.ensures.inserts)
 
-pub insert_one-requires-clause-list : goal.insert_one-requires-clause-list
-insert_one-requires-clause-list g c =
-    c.requires.order.lists_are c.loop-row.row-index c.row-item.result
-    (here c.args.rows.now c.loop-row.row-index c.row-item.result c.loop-row-test.true c.row-item.is)
-
-pub insert_one-requires-clause-key : goal.insert_one-requires-clause-key
-insert_one-requires-clause-key g c =
-    c.requires.order.keys_fit c.loop-row.row-index c.row-item.result
-    (here c.args.rows.now c.loop-row.row-index c.row-item.result c.loop-row-test.true c.row-item.is)
-
-pub insert_one-requires-clause-ready : goal.insert_one-requires-clause-ready
-insert_one-requires-clause-ready g c =
+pub insert_one-requires : goal.insert_one-requires
+insert_one-requires g c =
+    let so_far = c.loop-row.invariant in
     let row : ListedPosting = c.row-item.result in
     let is_here = here c.args.rows.now c.loop-row.row-index row c.loop-row-test.true c.row-item.is in
-    λ tells. c.loop-row.invariant.ready (subst IsTrue c.loop-row.invariant.called.tells tells) row
-    (c.requires.order.lists_are c.loop-row.row-index row is_here)
-    (λ i p less is. c.requires.order.order i c.loop-row.row-index p row less is is_here)
+    record {
+      list = c.requires.order.lists_are c.loop-row.row-index row is_here;
+      key = c.requires.order.keys_fit c.loop-row.row-index row is_here;
+      floor = omega (arith, c.requires.floor, so_far.fresh);
+      fresh = omega (arith, c.requires.fresh, so_far.fresh, so_far.from);
+      room = omega (arith, c.requires.room, so_far.to, so_far.end, c.loop-row-test.true);
+      free = so_far.inserted.free;
+      ready = λ tells. so_far.ready (subst IsTrue so_far.called.tells tells) row
+          (c.requires.order.lists_are c.loop-row.row-index row is_here)
+          (λ i p less is. c.requires.order.order i c.loop-row.row-index p row less is is_here);
+    }

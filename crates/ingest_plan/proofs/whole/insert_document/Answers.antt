@@ -1,10 +1,24 @@
 -- The postings, and then the bucket.
 use Rattle.std.proofs.Common.{refl, arith}
 use Rattle.cell_types.proofs.Passed.{handed}
+use Rattle.cell_types.specs.Layout.{list_at}
+use Rattle.jump_insertion.proofs.Untouched.{nothing_touched}
 use Rattle.worm_device.specs.Overlaying.{overlay_shows}
 use Rattle.worm_device.specs.Overlays.{of_overlay}
 use Rattle.ingest_plan.proofs.Indexing.{tree_is_ready, index_is_done, row_ends, entry_ends, entry_refused, taken_on}
 use Rattle.ingest_plan.proofs.whole.insert_document.Goals as goal
+
+pub insert_postings-requires : goal.insert_postings-requires
+insert_postings-requires g c = record {
+  order = c.requires.order;
+  floor = c.requires.floor;
+  fresh = c.requires.fresh;
+  room = omega (arith, c.requires.room);
+  free = λ cell past. c.requires.nothing cell;
+  untouched = λ tells l less. nothing_touched (of_overlay g.V.View.seen c.args.overlay.now)
+      (list_at c.args.volume.now.geometry l) (overlay_shows g.V.View.seen g.met.V.View.proper c.args.overlay.now)
+      c.requires.nothing;
+}
 
 pub insert-requires-clause-ready : goal.insert-requires-clause-ready
 insert-requires-clause-ready g c =
@@ -13,8 +27,8 @@ insert-requires-clause-ready g c =
     c.insert_postings.new.pool.next
     (of_overlay g.V.View.seen c.args.overlay.now) (of_overlay g.V.View.seen c.insert_postings.new.overlay) c.requires.order
     c.requires.nothing (λ cell. c.args.overlay.now.own.now.owned.unowned cell (c.requires.nothing cell))
-    (omega (arith, c.nibble_of-half.ensures.same, c.nibble_of-half.ensures.below)) c.requires.number c.requires.open_at
-    c.requires.floor (omega (arith, c.requires.fresh, c.insert_postings.ensures.from)) c.requires.within c.requires.led
+    (omega (arith, c.nibble_of-half.ensures.same, c.nibble_of-half.ensures.below)) c.requires.path.number c.requires.path.open_at
+    c.requires.floor (omega (arith, c.requires.fresh, c.insert_postings.ensures.from)) c.requires.path.within c.requires.path.led
     row.called row.fresh row.lower row.ends
 
 pub returns-in_err-insert_postings-clause-indexes : goal.returns-in_err-insert_postings-clause-indexes
@@ -38,8 +52,8 @@ returns-clause-indexes g c =
     c.insert_postings.new.pool.next
     (of_overlay g.V.View.seen c.args.overlay.now) (of_overlay g.V.View.seen c.insert_postings.new.overlay) c.requires.order
     c.requires.nothing (λ cell. c.args.overlay.now.own.now.owned.unowned cell (c.requires.nothing cell))
-    (omega (arith, c.nibble_of-half.ensures.same, c.nibble_of-half.ensures.below)) c.requires.number c.requires.open_at
-    c.requires.floor (omega (arith, c.requires.fresh, c.insert_postings.ensures.from)) c.requires.within c.requires.led
+    (omega (arith, c.nibble_of-half.ensures.same, c.nibble_of-half.ensures.below)) c.requires.path.number c.requires.path.open_at
+    c.requires.floor (omega (arith, c.requires.fresh, c.insert_postings.ensures.from)) c.requires.path.within c.requires.path.led
     row.called row.fresh row.lower row.ends c.insert_postings.new.pool c.insert.new.pool
     (of_overlay g.V.View.seen c.insert.new.overlay) c.in_ok-insert.field-0 entry.ends refl
     (overlay_shows g.V.View.seen g.met.V.View.proper c.args.overlay.now)

@@ -2,4 +2,4 @@
 use Rattle.jump_insertion.proofs.hops.+tail.Given as goal
 
 abbrev pub decreases-tail : goal.decreases-tail
-decreases-tail g l = l.level
+decreases-tail g l = l.step.level

@@ -1,5 +1,5 @@
 -- It begins at the list's first block.
-use Rattle.std.proofs.Common.{arith}
+use Rattle.std.proofs.Common.{arith, inl, refl}
 use Rattle.cell_types.proofs.Passed.{handed}
 use Rattle.worm_device.specs.Overlays.{of_overlay}
 use Rattle.jump_insertion.specs.Inserting.{fields_of}
@@ -7,11 +7,25 @@ use Rattle.jump_insertion.proofs.Inserting.{at_head, inserted, refused}
 use Rattle.jump_insertion.proofs.Showing.{is_view}
 use Rattle.jump_insertion.proofs.insertion.insert.Goals as goal
 
-pub insert_from-requires-clause-at : goal.insert_from-requires-clause-at
-insert_from-requires-clause-at g c = λ tells.
-    at_head (of_overlay g.V.View.seen c.args.overlay.now) c.args.head c.args.floor c.args.pool.now.next
-    c.args.new_entry.key
-    c.requires.head c.requires.floor (c.requires.ready tells)
+-- the first block is the first that the insertion comes to
+pub insert_from-requires : goal.insert_from-requires
+insert_from-requires g c = record {
+  posting = record {
+    well_formed = c.requires.well_formed;
+    head = c.requires.head;
+    floor = omega (arith, c.requires.floor, c.requires.fresh);
+    fresh = c.requires.fresh;
+    room = c.requires.room;
+    free = c.requires.free;
+  };
+  low = omega arith;
+  high = omega arith;
+  narrow = omega arith;
+  lies = inl refl;
+  before = omega (arith, c.requires.head, c.requires.floor, c.requires.fresh);
+  at = λ tells. at_head (of_overlay g.V.View.seen c.args.overlay.now) c.args.head c.args.floor c.args.pool.now.next
+      c.args.new_entry.key c.requires.head c.requires.floor (c.requires.ready tells);
+}
 
 pub returns-clause-inserts : goal.returns-clause-inserts
 returns-clause-inserts g c =
