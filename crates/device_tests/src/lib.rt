@@ -1,4 +1,5 @@
-//! Tests of cells and devices: bytes of cells, a device in memory, a file as a device, sources and sinks, kept cells.
+//! Tests of cells and devices that are no row of `worked_cells`: a file of the host and one that writes down its calls, a
+//! meter, readers and writers, and lines of refusals that no row shows.
 //!
 //! The files whose names end in `callers` have functions as other crates write them, generic over devices, views and ports,
 //! which are proved with next to no proof.
@@ -7,8 +8,6 @@
 #[cfg(test)]
 mod cache_callers;
 #[cfg(test)]
-mod caches;
-#[cfg(test)]
 mod cells;
 #[cfg(test)]
 mod device_callers;
@@ -16,8 +15,6 @@ mod device_callers;
 mod file_callers;
 #[cfg(test)]
 mod files;
-#[cfg(test)]
-mod memory;
 #[cfg(test)]
 mod memory_callers;
 #[cfg(test)]

@@ -25,6 +25,20 @@ impl Recorder {
             count: 0,
         }
     }
+
+    /// What was shown of reading 16,000 bytes since so many things were: `None` where nothing was, and 0 for anything else
+    /// than one such line.
+    fn shown_since(&self, before: usize) -> Option<u64> {
+        if self.count == before {
+            return None;
+        }
+        match self.shown.get(before) {
+            Some(&(Work::Reading, done, 16_000)) if self.count == before.saturating_add(1) => {
+                Some(done)
+            }
+            _ => Some(0),
+        }
+    }
 }
 
 impl Meter for Recorder {
@@ -85,6 +99,19 @@ fn a_device_that_is_read_is_shown_to_its_end(rt: HostRuntime) -> Result<(), Fail
     Ok(())
 }
 
+/// From where a file is read, how many bytes, whether that answers, and what is shown then, if anything.
+type Case = (u64, usize, bool, Option<u64>);
+
+/// Reads a file as each of these says.
+fn expect_shown(rt: &impl Abort, metered: &mut MeteredFile<MemoryFile, Recorder>, cases: &[Case]) {
+    for (from, size, answers, shown) in cases {
+        let before = metered.meter.count;
+        let done = read(rt, metered, *from, *size);
+        assert!(rt; done.is_ok() == *answers);
+        assert!(rt; metered.meter.shown_since(before) == *shown);
+    }
+}
+
 /// A read that fails is not shown, nor one that comes no further, nor what lies behind the last cell.
 #[test]
 fn only_reads_that_come_further_are_shown(rt: HostRuntime) -> Result<(), Fail> {
@@ -92,8 +119,7 @@ fn only_reads_that_come_further_are_shown(rt: HostRuntime) -> Result<(), Fail> {
     let mut file = MemoryFile::new(vec![in alloc; 0u8; SIZE]?, 0)?;
     file.fail_at(5, Leaving::Nothing);
     let mut metered = MeteredFile::new(file, Recorder::new());
-    assert_eq!(rt; metered.size(), 16_007);
-    // From where, how many bytes, whether that answers, and what is shown then, if anything.
+    assert!(rt; metered.size() == 16_007);
     let cases = [
         (0, 4_096, true, Some(4_096)),
         (4_096, 4_096, true, Some(8_192)),
@@ -103,18 +129,7 @@ fn only_reads_that_come_further_are_shown(rt: HostRuntime) -> Result<(), Fail> {
         (12_288, 3_712, true, Some(16_000)),
         (12_288, 3_719, true, None),
     ];
-    for (from, size, answers, shown) in cases {
-        let before = metered.meter.count;
-        let done = read(&rt, &mut metered, from, size);
-        assert_eq!(rt; done.is_ok(), answers, "{size} from {from} on");
-        let meter = &metered.meter;
-        assert!(rt; before < 8, "no test shows more");
-        let now = meter.shown[before];
-        match shown {
-            Some(end) => assert_eq!(rt; now, (Work::Reading, end, 16_000), "{size} from {from} on"),
-            None => assert_eq!(rt; meter.count, before, "{size} from {from} on"),
-        }
-    }
+    expect_shown(&rt, &mut metered, &cases);
     Ok(())
 }
 
