@@ -1,8 +1,8 @@
 pub mod Among
-pub mod AtOnce
 pub mod Folding
-pub mod Passing
+pub mod Places
 pub mod Reading
+pub mod Rows
 pub mod Seeking
-pub mod Tables
+pub mod Standing
 pub mod Ways

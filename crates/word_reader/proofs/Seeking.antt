@@ -10,7 +10,8 @@ use Rattle.std.proofs.Math.ListN.{get_or}
 use Rattle.std.proofs.Math.Seq.{get_or-append_seam}
 use Rattle.volume_meaning.specs.Words.{is_word_byte, lowered, ended, words_of, HasWord, Matches}
 use Rattle.volume_meaning.specs.declared.word_rules.WordRule.TheVariants.{Ascii}
-use Rattle.word_reader.specs.Matching.{run_after, ended_after, Seeks, SeekAll, Tracks, is_found, cleared, goes_on, pushed}
+use Rattle.word_reader.specs.Matching.{Seeks, SeekAll, Tracks, is_found, cleared, goes_on, pushed}
+use Rattle.word_reader.specs.Standing.{run_after, ended_after}
 use Rattle.word_reader.specs.declared.byte_matcher.Sought.{Sought}
 use Rattle.word_reader.proofs.Reading.{bool_cases, chosen, passed, run_last, ended_last, run_gone, ended_more, split, has_word}
 
@@ -19,17 +20,17 @@ pub true_false : true ≡ false → ⊥
 true_false e = cc
 
 -- what passes one test or the other
-or_parts : (a b : Bool) → (a || b) ≡ true → (a ≡ true) ⊎ (b ≡ true)
+pub or_parts : (a b : Bool) → (a || b) ≡ true → (a ≡ true) ⊎ (b ≡ true)
 or_parts true b e = inl refl
 or_parts false b e = inr e
 
 -- the first test suffices
-or_left : (a b : Bool) → a ≡ true → (a || b) ≡ true
+pub or_left : (a b : Bool) → a ≡ true → (a || b) ≡ true
 or_left true b e = refl
 or_left false b e = absurd (true_false (sym e))
 
 -- and so does the second
-or_right : (a b : Bool) → b ≡ true → (a || b) ≡ true
+pub or_right : (a b : Bool) → b ≡ true → (a || b) ≡ true
 or_right true b e = refl
 or_right false b e = e
 
@@ -45,10 +46,10 @@ nat_lt_is m n e = grind (arith, nat_tests)
 is_nat_lt : (m n : ℕ) → m < n → nat_lt m n ≡ true
 is_nat_lt m n e = grind (arith, nat_tests)
 
-nat_eq_is : (m n : ℕ) → nat_eq m n ≡ true → m ≡ n
+pub nat_eq_is : (m n : ℕ) → nat_eq m n ≡ true → m ≡ n
 nat_eq_is m n e = grind (arith, nat_tests)
 
-is_nat_eq : (m n : ℕ) → m ≡ n → nat_eq m n ≡ true
+pub is_nat_eq : (m n : ℕ) → m ≡ n → nat_eq m n ≡ true
 is_nat_eq m n e = grind (arith, nat_tests)
 
 -- a front with one byte more
@@ -61,12 +62,12 @@ only_one x t (zero, below, is) = is
 only_one x t (suc k, below, is) = absurd (omega (arith, below))
 
 -- a run that ends is the term only where it has a byte
-ended_has : (run t : List ℕ) → Contains (ended run) t → (run ≡ t) × (1 ≤ length run)
+pub ended_has : (run t : List ℕ) → Contains (ended run) t → (run ≡ t) × (1 ≤ length run)
 ended_has [] t (k, below, is) = absurd (omega (arith, below))
 ended_has (r ∷ run) t has = (only_one (r ∷ run) t has, omega arith)
 
 -- and there it is
-has_ended : (run t : List ℕ) → run ≡ t → 1 ≤ length run → Contains (ended run) t
+pub has_ended : (run t : List ℕ) → run ≡ t → 1 ≤ length run → Contains (ended run) t
 has_ended [] t is some = absurd (omega (arith, some))
 has_ended (r ∷ run) t is some = (0, omega arith, is)
 
@@ -75,7 +76,7 @@ abbrev is_all : List ℕ → Bool → ℕ → Bool
 is_all term on at = on && (nat_lt 0 at && nat_eq at (length term))
 
 -- a member of a list is one of an equal list
-carried : {xs ys : List (List ℕ)} → (t : List ℕ) → xs ≡ ys → Contains xs t → Contains ys t
+pub carried : {xs ys : List (List ℕ)} → (t : List ℕ) → xs ≡ ys → Contains xs t → Contains ys t
 carried t e has = subst (λ (l : List (List ℕ)). Contains l t) e has
 
 -- a step that leaves the term and what was found

@@ -11,15 +11,15 @@
 //!     c3 89 t c3 a9                  by bytes one word, as it stands; by characters `été`, with a small letter in front
 //!     a cc 81 b                      by bytes one word; by characters a and b, since a combining accent separates
 //!
-//! A **matcher** takes the bytes of a body in one pass. By bytes it keeps none of them: for each term it knows whether a
-//! word that has ended is the term, and how long a front of the term the present run is. The terms `hello` and `world`,
-//! after each byte of a body:
+//! A **matcher** takes the bytes of a body in one pass, row by row. By bytes it keeps none of them. A word that begins
+//! and ends within one row is compared with each term where it stands (`row_words.rt`); most places of a row are passed
+//! sixteen at once, by the first two bytes of the term (`lanes.rt`). A word that crosses from one row into the next is
+//! followed byte by byte: for each term it is known whether a word that has ended is the term, and how long a front of it
+//! the present run is. The terms `hello` and `world`, after each byte of a body that comes so:
 //!
 //!     byte       h  e  l  l  o  ' '  w  o  r
 //!     `hello`    1  2  3  4  5  found
 //!     `world`    -  -  -  -  -  0    1  2  3       - until the next separator: the run has left the term
-//!
-//! Bytes that no term which is still sought begins with are passed sixteen at once (`lanes.rt`).
 //!
 //! So by bytes it takes memory in `new` alone. By characters it keeps the bytes, and reads their words in `finish`.
 //! `clear` makes it ready for the next body. Its contract is a relation between the matcher, its rule, its terms and the
@@ -27,7 +27,7 @@
 //!
 //! Stands on `volume_meaning`, whose `specs/Words.antt` says what the words of a body are, on `cell_types` for
 //! `NoMemory`, and for characters on `bstr` and the tables of Unicode. Begin with `reader.rt`, then `matcher.rt`;
-//! `specs/Matching.antt` says what a matcher knows.
+//! `specs/Matching.antt` says what a matcher knows, `specs/Standing.antt` where a word of a row is a term.
 #![tactic(auto)]
 
 mod byte_matcher;
@@ -35,6 +35,7 @@ mod folded;
 mod lanes;
 mod matcher;
 mod reader;
+mod row_words;
 mod term;
 mod text_matcher;
 
