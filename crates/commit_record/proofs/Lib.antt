@@ -1,6 +1,7 @@
 pub mod Breaking
 pub mod CellsMake
 pub mod CellsSeen
+pub mod DoneRow
 pub mod HorizonSoFar
 pub mod LooksAsOne
 pub mod OneState

@@ -2,6 +2,7 @@
 use Rattle.std.specs.Prelude.{◌≡◌, ℕ, List, length, Option, Some, None, Result, Ok, Err, IsTrue, slice_get, ⊤}
 use Rattle.cell_types.specs.Image.{Image}
 use Rattle.cell_types.specs.Layout.{Layout, reserve_at, outcome_at, done_at, spare_at}
+use Rattle.cell_types.specs.Records.{IsRecordCell}
 use Rattle.cell_types.specs.declared.geometry.TheConstants.{STAMPED_VERSION}
 use Rattle.cell_types.specs.declared.record_cell.RecordCell.{RecordCell}
 use Rattle.cell_types.specs.declared.record_cell.RecordCell.TheVariants.{Stamp}
@@ -84,6 +85,12 @@ CellsEnd Seen g n (Err e) =
     IsPlaceOf g e.rule e.cell
     × ((before after : Image) → Seen before after
     → (after e.cell ≡ Some e.found) × IsNoState g before after n e.rule e.cell)
+
+-- this was found in a cell of this number, which is the record's
+pub record HoldsRecord (at : ℕ) (found : Option (List ℕ)) (held : RecordCell) : Type 0 where
+  pub cell : List ℕ
+  pub is : found ≡ Some cell
+  pub of : IsRecordCell held at cell
 
 -- What a row makes that begins with slot n's reserve, outcome and done cell: what was found in each, and what these are.
 pub record RowEnds (g : Layout) (n : ℕ) (row : List (Option (List ℕ))) (stamp : Option Found)

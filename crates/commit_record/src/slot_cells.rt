@@ -210,7 +210,7 @@ fn written_cell(found: &Found) -> Option<Cell>
 }
 
 /// The start and the number of the cells that a record reserves, where they lie in the pool.
-fn reserved_cells(geometry: &Geometry, held: &RecordCell) -> Option<(u32, u32)>
+pub(crate) fn reserved_cells(geometry: &Geometry, held: &RecordCell) -> Option<(u32, u32)>
     ensures some { IfSome result (λ r. (held.now ≡ Reserve r.0 r.1)
         × (pool_at geometry.now ≤ r.0) × (r.0 + r.1 ≤ geometry.now.cells) × (r.0 + r.1 ≤ MAX_CELLS)) }
     ensures none { IfNone result ((start length : ℕ) → held.now ≡ Reserve start length →
@@ -227,7 +227,7 @@ fn reserved_cells(geometry: &Geometry, held: &RecordCell) -> Option<(u32, u32)>
 }
 
 /// Whether the slot's stamp cell was looked at and holds no stamp.
-fn lacks_stamp(stamp: Option<Found>) -> bool
+pub(crate) fn lacks_stamp(stamp: Option<Found>) -> bool
     ensures missing { IsTrue result → IsStampMissing stamp }
     ensures there { result ≡ false → IsStampThere stamp }
 {
@@ -250,7 +250,7 @@ fn is_stamp(held: &RecordCell) -> bool
 }
 
 /// Whether a document of so many stored bytes and a journal of so many cells fit into so many cells.
-fn fits_into(length: u32, bytes: u32, journal: u32) -> bool
+pub(crate) fn fits_into(length: u32, bytes: u32, journal: u32) -> bool
     ensures { IsTrue result ↔ cells_for bytes + journal ≤ length }
 {
     let document = document_cells(bytes);

@@ -1,16 +1,16 @@
 //! The state of a slot by its cells, which are neighbours and are read as one row, and its stamp.
-ghost use Rattle.std.specs.Prelude.{◌≡◌, ◌<◌, ◌≤◌, ◌+◌, IfOk, length};
+ghost use Rattle.std.specs.Prelude.{◌≡◌, ◌<◌, ◌≤◌, ◌+◌, IfOk, IfSome, Ok, length};
 ghost use Rattle.cell_types.specs.declared.geometry.TheConstants.{STAMPED_VERSION};
 ghost use Rattle.worm_device.specs.Looks.{IsOfCell};
 ghost use Rattle.worm_device.specs.Views.{Viewed};
 ghost use Rattle.commit_record.specs.Partition.{HasRoom};
-ghost use Rattle.commit_record.specs.SlotCells.{RowEnds, SlotOfRow, StampOfRow, found_cell};
+ghost use Rattle.commit_record.specs.SlotCells.{HoldsRecord, RowEnds, SlotOfRow, StampOfRow, found_cell};
 ghost use Rattle.commit_record.specs.States.{StateEnds};
 
 use crate::slot::SlotState;
-use crate::slot_cells::{found_there, state_of_cells};
+use crate::slot_cells::{fits_into, found_there, lacks_stamp, reserved_cells, state_of_cells};
 use crate::stamp_cell::stamp_found;
-use cell_types::{Cell, Evidence, Fault, Geometry, STAMPED_VERSION};
+use cell_types::{Cell, Evidence, Fault, Geometry, RecordCell, STAMPED_VERSION, decode};
 use worm_device::{Found, View};
 
 /// The state of a slot on a volume whose documents are not stamped. It reads three cells.
@@ -86,7 +86,8 @@ pub fn stamp_of_row(geometry: &Geometry, slot: u32, row: &[Option<Cell>]) -> Opt
     stamp_found(found_in(spare, geometry.spare_at(slot)))
 }
 
-/// The state that a row makes of a slot's reserve, outcome and done cell, or the first of them that is out of place.
+/// The state that a row makes of a slot's reserve, outcome and done cell, or the first of them that is out of place. Most
+/// slots are done, so that is asked first.
 fn state_of_row(
     geometry: &Geometry,
     slot: u32,
@@ -97,6 +98,9 @@ fn state_of_row(
     requires three { 3 ≤ length row.now }
     ensures { RowEnds geometry.now slot row.now stamp result }
 {
+    if let Some(state) = done_of_row(geometry, slot, row, &stamp) {
+        return Ok(state);
+    }
     let first = row[0];
     let second = row[1];
     let third = row[2];
@@ -104,6 +108,60 @@ fn state_of_row(
     let outcome = found_in(second, geometry.outcome_at(slot));
     let done = found_in(third, geometry.done_at(slot));
     state_of_cells(geometry, slot, reserve, outcome, done, stamp)
+}
+
+/// The state of a slot that is done, where its cells say so, and `None` where it is in another state, or in none.
+fn done_of_row(
+    geometry: &Geometry,
+    slot: u32,
+    row: &[Option<Cell>],
+    stamp: &Option<Found>,
+) -> Option<SlotState>
+    requires slot { slot < geometry.now.slots }
+    requires three { 3 ≤ length row.now }
+    ensures { IfSome result (λ state. RowEnds geometry.now slot row.now stamp.now (Ok state)) }
+{
+    let first = row[0];
+    let second = row[1];
+    let third = row[2];
+    let Some(reserve) = record_in(first, geometry.reserve_at(slot)) else {
+        return None;
+    };
+    let Some((start, length)) = reserved_cells(geometry, &reserve) else {
+        return None;
+    };
+    let Some(RecordCell::Commit { bytes, journal }) = record_in(second, geometry.outcome_at(slot))
+    else {
+        return None;
+    };
+    let Some(RecordCell::Done { slot: named }) = record_in(third, geometry.done_at(slot)) else {
+        return None;
+    };
+    if named != slot {
+        return None;
+    }
+    if !fits_into(length, bytes, journal) {
+        return None;
+    }
+    if lacks_stamp(*stamp) {
+        return None;
+    }
+    Some(SlotState::Done {
+        start,
+        length,
+        bytes,
+        journal,
+    })
+}
+
+/// The record in a cell of this number, of which the row holds this, if it is one.
+fn record_in(held: Option<Cell>, at: u32) -> Option<RecordCell>
+    ensures { IfSome result (λ r. HoldsRecord at held r) }
+{
+    let Some(cell) = held else {
+        return None;
+    };
+    decode(cell, at)
 }
 
 /// What stands in a cell of this number, of which the row holds this.
