@@ -13,7 +13,7 @@ use Rattle.std.specs.List.{list_all, prefix_len, range_with_len}
 use Rattle.std.specs.Prelude.{slice_index}
 use Rattle.std.specs.Simd.Lanes.{chunk, zip2}
 use Rattle.volume_meaning.specs.Words.{lowered}
-use Rattle.word_reader.specs.Standing.{StandsAt}
+use Rattle.word_reader.specs.RowWords.{StandsAt}
 use Rattle.word_reader.proofs.Reading.{bool_cases, passed}
 use Rattle.word_reader.proofs.Seeking.{true_false}
 

@@ -6,7 +6,7 @@ use Rattle.volume_meaning.specs.Words.{is_word_byte, lowered, ended, words_from,
 use Rattle.volume_meaning.specs.declared.word_rules.WordRule.{WordRule}
 use Rattle.volume_meaning.specs.declared.word_rules.WordRule.TheVariants.{Ascii}
 use Rattle.volume_meaning.proofs.Words.{words_are_one}
-use Rattle.word_reader.specs.Standing.{run_after, ended_after}
+use Rattle.word_reader.specs.RowWords.{run_after, ended_after}
 
 pub bool_cases : (c : Bool) → (c ≡ true) ⊎ (c ≡ false)
 bool_cases true = inl refl

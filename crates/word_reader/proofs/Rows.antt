@@ -7,12 +7,12 @@ use Rattle.std.proofs.lemmas.List.{append_assoc, append-nil, length-drop, take_a
 use Rattle.std.proofs.Math.Seq.{take-add}
 use Rattle.std.proofs.lemmas.List.Elements.{Contains-append_left, Contains-append_right, Contains-append_cases}
 use Rattle.word_reader.specs.Matching.{KnowsBytes, SeekAll, Seeks, Tracks, has_ended, taken}
-use Rattle.word_reader.specs.Standing.{ended_after, has_word, run_after}
+use Rattle.word_reader.specs.RowWords.{ended_after, has_word, run_after}
 use Rattle.word_reader.specs.declared.byte_matcher.ByteMatcher.{ByteMatcher}
 use Rattle.word_reader.specs.declared.byte_matcher.Sought.{Sought}
 use Rattle.word_reader.proofs.Reading.{bool_cases}
 use Rattle.word_reader.proofs.Seeking.{Keeps, and_of, carried, found_stays, or_left, or_parts, or_right, true_false}
-use Rattle.word_reader.proofs.Standing.{ended_append, is_one, one_is, run_append}
+use Rattle.word_reader.proofs.RowWords.{ended_append, is_one, one_is, run_append}
 
 -- A row behind bytes, both of which end between words.
 module _ (bytes row : List ℕ) (apart : run_after [] bytes ≡ []) (ends : run_after [] row ≡ []) where

@@ -11,7 +11,7 @@ use Rattle.std.proofs.Math.Seq.{get_or-append_seam}
 use Rattle.volume_meaning.specs.Words.{is_word_byte, lowered, ended, words_of, HasWord, Matches}
 use Rattle.volume_meaning.specs.declared.word_rules.WordRule.TheVariants.{Ascii}
 use Rattle.word_reader.specs.Matching.{Seeks, SeekAll, Tracks, is_found, cleared, goes_on, pushed}
-use Rattle.word_reader.specs.Standing.{run_after, ended_after}
+use Rattle.word_reader.specs.RowWords.{run_after, ended_after}
 use Rattle.word_reader.specs.declared.byte_matcher.Sought.{Sought}
 use Rattle.word_reader.proofs.Reading.{bool_cases, chosen, passed, run_last, ended_last, run_gone, ended_more, split, has_word}
 

@@ -1,3 +1,3 @@
 pub mod Matching
+pub mod RowWords
 pub mod Single
-pub mod Standing

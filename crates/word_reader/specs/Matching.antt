@@ -8,7 +8,7 @@ use Rattle.cell_types.specs.declared.refusal.NoMemory.{NoMemory}
 use Rattle.volume_meaning.specs.Words.{is_word_byte, lowered, Matches}
 use Rattle.volume_meaning.specs.declared.word_rules.WordRule.{WordRule}
 use Rattle.volume_meaning.specs.declared.word_rules.WordRule.TheVariants.{Ascii, Folded}
-use Rattle.word_reader.specs.Standing.{ended_after, has_word, run_after}
+use Rattle.word_reader.specs.RowWords.{ended_after, has_word, run_after}
 use Rattle.word_reader.specs.declared.byte_matcher.Sought.{Sought}
 use Rattle.word_reader.specs.declared.byte_matcher.ByteMatcher.{ByteMatcher}
 use Rattle.word_reader.specs.declared.matcher.Matcher.{Matcher}

@@ -4,7 +4,7 @@ ghost use Rattle.std.specs.List.{list_all};
 ghost use Rattle.volume_meaning.specs.Words.{Matches};
 ghost use Rattle.volume_meaning.specs.declared.word_rules.WordRule.TheVariants.{Ascii};
 ghost use Rattle.word_reader.specs.Matching.{KnowsBytes, SeekAll, cleared, goes_on, has_ended, is_found, is_whole, pushed, taken};
-ghost use Rattle.word_reader.specs.Standing as words;
+ghost use Rattle.word_reader.specs.RowWords as words;
 
 use crate::Term;
 use crate::reader::{is_of_word, lower};

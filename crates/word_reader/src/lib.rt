@@ -27,7 +27,7 @@
 //!
 //! Stands on `volume_meaning`, whose `specs/Words.antt` says what the words of a body are, on `cell_types` for
 //! `NoMemory`, and for characters on `bstr` and the tables of Unicode. Begin with `reader.rt`, then `matcher.rt`;
-//! `specs/Matching.antt` says what a matcher knows, `specs/Standing.antt` where a word of a row is a term.
+//! `specs/Matching.antt` says what a matcher knows, `specs/RowWords.antt` where a word of a row is a term.
 #![tactic(auto)]
 
 mod byte_matcher;

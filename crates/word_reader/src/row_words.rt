@@ -1,7 +1,7 @@
 //! Whether a term is one of the words that end within a row.
-ghost use Rattle.std.specs.Prelude.{◌≡◌, ◌<◌, ◌≤◌, ◌+◌, ◌↔◌, [], ℕ, IsTrue, drop, length, take};
-ghost use Rattle.word_reader.specs.Standing.{SpellsAt, StandsAt, is_behind, run_after};
-ghost use Rattle.word_reader.specs.Standing as words;
+ghost use Rattle.std.specs.Prelude.{◌≡◌, ◌<◌, ◌≤◌, ◌+◌, ◌↔◌, [], ℕ, IsTrue, length, take};
+ghost use Rattle.word_reader.specs.RowWords.{SpellsAt, StandsAt, is_behind, run_after};
+ghost use Rattle.word_reader.specs.RowWords as words;
 ghost use Rattle.word_reader.specs.declared.lanes.TheConstants.{LANES};
 
 use crate::lanes::{LANES, places_before};

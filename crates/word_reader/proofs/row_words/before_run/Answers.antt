@@ -1,6 +1,6 @@
 -- No byte of a word stands before the place.
 use Rattle.std.proofs.Common.{◌∙◌, sym}
-use Rattle.word_reader.proofs.Standing.{none_begun}
+use Rattle.word_reader.proofs.RowWords.{none_begun}
 use Rattle.word_reader.proofs.row_words.before_run.Goals as goal
 
 pub returns-clause-gap : goal.returns-clause-gap

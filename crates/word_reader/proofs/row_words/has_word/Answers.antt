@@ -1,7 +1,7 @@
 -- The term stands at a place, or at none.
 use Rattle.std.proofs.Common.{rules, ◌≡◌, ◌+◌, ◌∙◌, length, sym, arith}
 use Rattle.word_reader.proofs.Places.{none_at, none_to}
-use Rattle.word_reader.proofs.Standing.{is_none, is_word}
+use Rattle.word_reader.proofs.RowWords.{is_none, is_word}
 use Rattle.word_reader.proofs.Seeking.{true_false}
 use Rattle.word_reader.proofs.row_words.has_word.Goals as goal
 

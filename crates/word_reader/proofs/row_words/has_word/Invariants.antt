@@ -1,6 +1,6 @@
 -- The term stands at no place before this one.
 use Rattle.std.proofs.Common.{◌<◌, ◌≤◌, ◌+◌, ◌-◌, ℕ, length}
-use Rattle.word_reader.specs.Standing.{StandsAt}
+use Rattle.word_reader.specs.RowWords.{StandsAt}
 use Rattle.word_reader.proofs.row_words.has_word.Given as goal
 
 abbrev pub invariant-loop-at : goal.invariant-loop-at

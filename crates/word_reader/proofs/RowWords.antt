@@ -6,7 +6,7 @@ use Rattle.std.proofs.lemmas.List.{append_assoc, take_all, take-append-drop, len
 use Rattle.std.proofs.lemmas.List.Elements.{Contains-append_left, Contains-append_right, Contains-append_cases}
 use Rattle.std.proofs.Math.Seq.{get_or-append_seam}
 use Rattle.volume_meaning.specs.Words.{is_word_byte, lowered, ended}
-use Rattle.word_reader.specs.Standing.{SpellsAt, StandsAt, are_same, ended_after, has_word, is_behind, is_one_of, run_after}
+use Rattle.word_reader.specs.RowWords.{SpellsAt, StandsAt, are_same, ended_after, has_word, is_behind, is_one_of, run_after}
 use Rattle.word_reader.proofs.Reading.{bool_cases, ended_end, ended_last, ended_more, ended_on, run_end, run_gone, run_last, run_on}
 use Rattle.word_reader.proofs.Seeking.{and_of, carried, ended_has, has_ended, is_nat_eq, nat_eq_is, or_left, or_parts, or_right, take_more_of, true_false}
 

@@ -39,13 +39,13 @@ is_behind row zero = false
 is_behind row (suc at) = is_word_byte (slice_index row at)
 
 -- the byte is one of a word, and in small letters this one
-pub record Spells (byte small : ℕ) : Type 0 where
+pub record ReadsAs (byte small : ℕ) : Type 0 where
   pub of_word : is_word_byte byte ≡ true
   pub same : lowered byte ≡ small
 
 -- the bytes of a row from this place on spell these
 abbrev pub SpellsAt : List ℕ → ℕ → List ℕ → Type 0
-SpellsAt row at run = (k : ℕ) → k < length run → Spells (slice_index row (at + k)) (slice_index run k)
+SpellsAt row at run = (k : ℕ) → k < length run → ReadsAs (slice_index row (at + k)) (slice_index run k)
 
 -- the word that begins at this place of a row is the term, and it ends within the row
 pub record StandsAt (row : List ℕ) (at : ℕ) (term : List ℕ) : Type 0 where
