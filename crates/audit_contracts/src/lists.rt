@@ -1,19 +1,19 @@
 //! The blocks of lists, their entries and trails.
 ghost use Rattle.std.specs.Prelude.{◌≡◌, IfNone, IfOk, IfSome, Some};
 ghost use Rattle.list_audit.specs.Blocks.{AreListBlocks};
-ghost use Rattle.log_audit.specs.Findings.{AreMetBelow, FindsBroken};
+ghost use Rattle.log_audit.specs.KeptVolumes.{FindsIn, IsStated, KeepsBelow};
+ghost use Rattle.log_audit.specs.Findings.{FindsBroken};
 ghost use Rattle.log_audit.specs.Kept.{image_of_kept};
-ghost use Rattle.log_audit.specs.Logs.{IsLog};
 ghost use Rattle.tamper_rules.specs.Rules.{Entries, Trails};
 ghost use Rattle.volume_meaning.specs.Blocks.{PostingFields, posting_record};
-ghost use Rattle.volume_meaning.specs.Volumes.{Holds, IsVolume};
+ghost use Rattle.volume_meaning.specs.Volumes.{Holds};
 
 use cell_types::{Evidence, Geometry, NoMemory};
 use host_ports::Meter;
 use list_audit::{
     HeldPosting, ListBlock, blocks_of, first_broken_entry, first_broken_trail, posting_at,
 };
-use log_audit::{KeptCells, Log};
+use log_audit::{KeptCells, KeptVolume};
 use std::alloc::Global;
 
 /// `blocks_of`.
@@ -51,15 +51,12 @@ pub fn posting_at_again(kept: &KeptCells, at: u32) -> Option<HeldPosting>
 /// `first_broken_trail`.
 pub fn broken_trail_again<M: Meter>(
     alloc: Global,
-    kept: &KeptCells,
-    geometry: &Geometry,
-    log: &Log,
+    volume: &KeptVolume,
     meter: &mut M,
 ) -> Result<Option<Evidence>, NoMemory>
-    requires volume { IsVolume geometry.now.cells (image_of_kept kept.now) geometry.now }
-    requires log { IsLog geometry.now (image_of_kept kept.now) log.now }
-    requires met { AreMetBelow geometry.now (image_of_kept kept.now) 13 }
-    ensures { IfOk result (λ found. FindsBroken geometry.now (image_of_kept kept.now) Trails found) }
+    requires stated { IsStated volume.now }
+    requires met { KeepsBelow volume.now 13 }
+    ensures { IfOk result (λ found. FindsIn volume.now Trails found) }
 {
-    first_broken_trail(alloc, kept, geometry, log, meter)
+    first_broken_trail(alloc, volume, meter)
 }

@@ -2,7 +2,7 @@
 use crate::cells::{Written, device_with};
 use cell_types::{Cell, Geometry};
 use list_audit::{ListBlock, blocks_of};
-use log_audit::{Shown, check_log, keep_cells, owner_of};
+use log_audit::{KeptVolume, Shown, check_log, keep_cells};
 use slot_audit::{first_broken, first_broken_tiling};
 use std::alloc::Global;
 use std::test::Fail;
@@ -31,7 +31,12 @@ fn owner_in(alloc: Global, cell: u32) -> Result<Option<u32>, Fail> {
     let Ok(log) = check_log(alloc, &kept, &geometry) else {
         return Err("refused".into());
     };
-    Ok(owner_of(&kept, &geometry, &log, cell))
+    let volume = KeptVolume {
+        kept,
+        geometry,
+        log,
+    };
+    Ok(volume.owner_of(cell))
 }
 
 /// The cell of this kind that leads to this one, for the cell with this address.
@@ -70,10 +75,15 @@ fn tiled_with(alloc: Global, jump: u32, child: u32) -> Result<Option<u32>, Fail>
     let Ok(log) = check_log(alloc, &kept, &geometry) else {
         return Err("no log".into());
     };
-    if let Some(_evidence) = first_broken(&kept, &geometry, &log) {
+    let volume = KeptVolume {
+        kept,
+        geometry,
+        log,
+    };
+    if let Some(_evidence) = first_broken(&volume) {
         return Err("a lower rule is broken".into());
     }
-    let found = first_broken_tiling(alloc, &kept, &geometry, &log)?;
+    let found = first_broken_tiling(alloc, &volume)?;
     Ok(found.map(|evidence| evidence.cell))
 }
 

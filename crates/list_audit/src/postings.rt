@@ -1,12 +1,10 @@
 //! Rule 9: postings that are some document's.
-ghost use Rattle.std.specs.Prelude.{◌≡◌, IfOk};
+ghost use Rattle.std.specs.Prelude.{IfOk};
 ghost use Rattle.volume_meaning.specs.Nodes.{IsBlockOf};
-ghost use Rattle.volume_meaning.specs.Volumes.{IsVolume};
 ghost use Rattle.tamper_rules.specs.Rules.{Documents, Postings};
+ghost use Rattle.log_audit.specs.KeptVolumes.{FindsIn, IsStated, KeepsRule, image_in};
 ghost use Rattle.log_audit.specs.Kept.{image_of_kept};
-ghost use Rattle.log_audit.specs.Findings.{FindsBroken, IsMetAll};
 ghost use Rattle.log_audit.specs.Least.{FindsPart};
-ghost use Rattle.log_audit.specs.Logs.{IsLog};
 ghost use Rattle.list_audit.specs.Blocks.{AreListBlocks};
 ghost use Rattle.list_audit.specs.Owing.{AreOwed, BlockOwes};
 ghost use Rattle.list_audit.specs.Tables.{AreOrderedRows};
@@ -16,7 +14,7 @@ use crate::listed::ListBlock;
 use crate::table::{PostingTable, table_of};
 use cell_types::{Evidence, Geometry, NoMemory};
 use host_ports::Meter;
-use log_audit::{KeptCells, Log, lower_of};
+use log_audit::{KeptCells, KeptVolume, lower_of};
 use std::alloc::Global;
 use tamper_rules::FAKE_POSTING;
 use volume_meaning::ENTRY_PLACES;
@@ -30,40 +28,33 @@ use volume_meaning::ENTRY_PLACES;
 /// `NoMemory`.
 pub fn first_broken_posting<M: Meter>(
     alloc: Global,
-    kept: &KeptCells,
-    geometry: &Geometry,
-    log: &Log,
+    volume: &KeptVolume,
     blocks: &[ListBlock],
     meter: &mut M,
 ) -> Result<Option<Evidence>, NoMemory>
-    requires volume { IsVolume geometry.now.cells (image_of_kept kept.now) geometry.now }
-    requires log { IsLog geometry.now (image_of_kept kept.now) log.now }
-    requires documents { IsMetAll geometry.now (image_of_kept kept.now) Documents }
-    requires blocks { AreListBlocks geometry.now (image_of_kept kept.now) blocks.now }
-    ensures { IfOk result (λ found. FindsBroken geometry.now (image_of_kept kept.now) Postings found) }
+    requires stated { IsStated volume.now }
+    requires documents { KeepsRule volume.now Documents }
+    requires blocks { AreListBlocks volume.now.geometry (image_in volume.now) blocks.now }
+    ensures { IfOk result (λ found. FindsIn volume.now Postings found) }
 {
-    let table = table_of(alloc, kept, geometry, log, meter)?;
-    Ok(first_fake(kept, geometry, log, blocks, &table))
+    let table = table_of(alloc, volume, meter)?;
+    Ok(first_fake(volume, blocks, &table))
 }
 
 /// The same, by the postings that documents are to have.
-fn first_fake(
-    kept: &KeptCells,
-    geometry: &Geometry,
-    _log: &Log,
-    blocks: &[ListBlock],
-    table: &PostingTable,
-) -> Option<Evidence>
-    requires volume { IsVolume geometry.now.cells (image_of_kept kept.now) geometry.now }
-    requires log { IsLog geometry.now (image_of_kept kept.now) _log.now }
-    requires blocks { AreListBlocks geometry.now (image_of_kept kept.now) blocks.now }
-    requires owed { AreOwed geometry.now (image_of_kept kept.now) geometry.now.slots table.now.rows.items }
+fn first_fake(volume: &KeptVolume, blocks: &[ListBlock], table: &PostingTable) -> Option<Evidence>
+    requires stated { IsStated volume.now }
+    requires blocks { AreListBlocks volume.now.geometry (image_in volume.now) blocks.now }
+    requires owed { AreOwed volume.now.geometry (image_in volume.now) volume.now.geometry.slots table.now.rows.items }
     requires order { AreOrderedRows table.now.rows.items }
-    ensures { FindsBroken geometry.now (image_of_kept kept.now) Postings result }
+    ensures { FindsIn volume.now Postings result }
 {
     let mut least = None;
     for block in blocks {
-        least = lower_of(least, first_fake_in(kept, geometry, block, table));
+        least = lower_of(
+            least,
+            first_fake_in(&volume.kept, &volume.geometry, block, table),
+        );
     }
     least
 }

@@ -23,19 +23,18 @@
 //! looks; and each pointer that is written leads well. Spans grow narrower from block to block, by a factor of 16 at
 //! least, so that a trail has 9 blocks at most.
 //!
-//! What is asked of a caller is that cell 0 states the volume, that the log is the volume's, and that lower rules are
-//! kept: the calls that check them say so.
+//! What is asked of a caller is that cell 0 states the volume, and that lower rules are kept: the calls that check them
+//! say so.
 //!
 //! Rule 13 is checked here and in `trails.rt`, rule 9 in `postings.rt` and `table.rt`; `specs/Trails.antt` says what a step
 //! of a trail answers, and `specs/Owing.antt` what is owed.
 ghost use Rattle.std.specs.Prelude.{◌≡◌, ◌<◌, ◌↔◌, ℕ, IfOk, IsTrue, Some, slice_get};
 ghost use Rattle.cell_types.specs.Layout.{all_lists};
 ghost use Rattle.volume_meaning.specs.Postings as paths;
-ghost use Rattle.volume_meaning.specs.Volumes.{IsVolume};
 ghost use Rattle.tamper_rules.specs.Rules.{Documents, Entries, Pointers, Trails};
+ghost use Rattle.log_audit.specs.KeptVolumes.{FindsIn, IsStated, KeepsBelow};
 ghost use Rattle.log_audit.specs.Kept.{image_of_kept};
-ghost use Rattle.log_audit.specs.Findings.{AreMetBelow, FindsBroken, IsMetAll};
-ghost use Rattle.log_audit.specs.Logs.{IsLog};
+ghost use Rattle.log_audit.specs.Findings.{IsMetAll};
 ghost use Rattle.log_audit.specs.Stored.{IsStored};
 ghost use Rattle.list_audit.specs.Keeping.{HaveTrails, KeepsTrailRule};
 
@@ -44,7 +43,7 @@ use crate::listing::postings_of;
 use crate::trails::has_trail;
 use cell_types::{Evidence, Geometry, NoMemory};
 use host_ports::{Meter, Work};
-use log_audit::{KeptCells, Log, StoredSlot, stored_slot};
+use log_audit::{KeptCells, KeptVolume, StoredSlot};
 use std::alloc::Global;
 use tamper_rules::MISSING_TRAIL;
 use term_tags::ListedPosting;
@@ -57,29 +56,26 @@ use term_tags::ListedPosting;
 /// `NoMemory`.
 pub fn first_broken_trail<M: Meter>(
     alloc: Global,
-    kept: &KeptCells,
-    geometry: &Geometry,
-    log: &Log,
+    volume: &KeptVolume,
     meter: &mut M,
 ) -> Result<Option<Evidence>, NoMemory>
-    requires volume { IsVolume geometry.now.cells (image_of_kept kept.now) geometry.now }
-    requires log { IsLog geometry.now (image_of_kept kept.now) log.now }
-    requires met { AreMetBelow geometry.now (image_of_kept kept.now) 13 }
-    ensures { IfOk result (λ found. FindsBroken geometry.now (image_of_kept kept.now) Trails found) }
+    requires stated { IsStated volume.now }
+    requires met { KeepsBelow volume.now 13 }
+    ensures { IfOk result (λ found. FindsIn volume.now Trails found) }
 {
-    let slots = log.slots.len() as u64;
+    let slots = volume.log.slots.len() as u64;
     let checks = slots.saturating_mul(2);
-    for slot in 0..geometry.slots() {
-        let Some(stored) = stored_slot(kept, geometry, log, slot) else {
+    for slot in 0..volume.geometry.slots() {
+        let Some(stored) = volume.stored_slot(slot) else {
             continue;
         };
         let made = slots.saturating_add(u64::from(slot));
         meter.show(Work::Checking, made, checks);
-        if keeps_trail_rule(alloc, kept, geometry, &stored)? {
+        if keeps_trail_rule(alloc, &volume.kept, &volume.geometry, &stored)? {
             continue;
         }
-        let cell = geometry.done_at(slot);
-        let Some(found) = kept.at(cell) else {
+        let cell = volume.geometry.done_at(slot);
+        let Some(found) = volume.kept.at(cell) else {
             unreachable!();
         };
         return Ok(Some(Evidence {

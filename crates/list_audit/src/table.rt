@@ -1,18 +1,16 @@
 //! The postings that documents are to have.
 ghost use Rattle.std.specs.Prelude.{◌≡◌, ◌↔◌, [], IfOk, IsTrue, OnOk};
 ghost use Rattle.tamper_rules.specs.Rules.{Documents};
-ghost use Rattle.log_audit.specs.Kept.{image_of_kept};
-ghost use Rattle.log_audit.specs.Findings.{IsMetAll};
-ghost use Rattle.log_audit.specs.Logs.{IsLog};
+ghost use Rattle.log_audit.specs.KeptVolumes.{KeepsRule, image_in};
 ghost use Rattle.log_audit.specs.Stored.{FitsInSlot};
 ghost use Rattle.list_audit.specs.Owing.{AreOwed};
 ghost use Rattle.list_audit.specs.Tables.{AddsRow, AddsRows, AreOrderedRows, AreSameRows, HasRow, number_of};
 
 use crate::held_posting::HeldPosting;
 use crate::listing::postings_of;
-use cell_types::{Geometry, NoMemory, RecordCell, address_of, decode};
+use cell_types::{NoMemory, RecordCell, address_of, decode};
 use host_ports::{Meter, Work};
-use log_audit::{KeptCells, Log, StoredSlot, stored_slot};
+use log_audit::{KeptCells, KeptVolume, StoredSlot};
 use std::alloc::Global;
 use term_tags::ListedPosting;
 
@@ -31,16 +29,10 @@ pub(crate) struct PostingTable {
 impl PostingTable {
     /// No posting yet, and room for as many as journals hold: on a volume that keeps its rules these are all, so that
     /// the row never grows.
-    fn with_room(
-        alloc: Global,
-        kept: &KeptCells,
-        geometry: &Geometry,
-        log: &Log,
-    ) -> Result<PostingTable, NoMemory>
-        requires { IsLog geometry.now (image_of_kept kept.now) log.now }
+    fn with_room(alloc: Global, volume: &KeptVolume) -> Result<PostingTable, NoMemory>
         ensures { IfOk result (λ table. table.rows.items ≡ []) }
     {
-        let room = journaled_postings(kept, geometry, log);
+        let room = journaled_postings(volume);
         let Ok(rows) = Vec::with_capacity(alloc, room) else {
             return Err(NoMemory);
         };
@@ -92,25 +84,22 @@ impl PostingTable {
 /// The postings that the documents of a volume are to have, where rule 4 is kept. That is the first check of each slot.
 pub(crate) fn table_of<M: Meter>(
     alloc: Global,
-    kept: &KeptCells,
-    geometry: &Geometry,
-    log: &Log,
+    volume: &KeptVolume,
     meter: &mut M,
 ) -> Result<PostingTable, NoMemory>
-    requires log { IsLog geometry.now (image_of_kept kept.now) log.now }
-    requires documents { IsMetAll geometry.now (image_of_kept kept.now) Documents }
+    requires documents { KeepsRule volume.now Documents }
     ensures owed { IfOk result (λ table.
-        AreOwed geometry.now (image_of_kept kept.now) geometry.now.slots table.rows.items) }
+        AreOwed volume.now.geometry (image_in volume.now) volume.now.geometry.slots table.rows.items) }
     ensures order { IfOk result (λ table. AreOrderedRows table.rows.items) }
 {
-    let mut table = PostingTable::with_room(alloc, kept, geometry, log)?;
-    let checks = (log.slots.len() as u64).saturating_mul(2);
-    for slot in 0..geometry.slots() {
-        let Some(stored) = stored_slot(kept, geometry, log, slot) else {
+    let mut table = PostingTable::with_room(alloc, volume)?;
+    let checks = (volume.log.slots.len() as u64).saturating_mul(2);
+    for slot in 0..volume.geometry.slots() {
+        let Some(stored) = volume.stored_slot(slot) else {
             continue;
         };
         meter.show(Work::Checking, u64::from(slot), checks);
-        let found = postings_of(alloc, kept, geometry, &stored)?;
+        let found = postings_of(alloc, &volume.kept, &volume.geometry, &stored)?;
         let Some(rows) = found else {
             continue;
         };
@@ -121,15 +110,13 @@ pub(crate) fn table_of<M: Meter>(
 }
 
 /// How many postings the journals of stored slots hold.
-fn journaled_postings(kept: &KeptCells, geometry: &Geometry, log: &Log) -> usize
-    requires { IsLog geometry.now (image_of_kept kept.now) log.now }
-{
+fn journaled_postings(volume: &KeptVolume) -> usize {
     let mut count: usize = 0;
-    for slot in 0..geometry.slots() {
-        let Some(holder) = stored_slot(kept, geometry, log, slot) else {
+    for slot in 0..volume.geometry.slots() {
+        let Some(holder) = volume.stored_slot(slot) else {
             continue;
         };
-        count = count.saturating_add(postings_journaled_by(kept, &holder));
+        count = count.saturating_add(postings_journaled_by(&volume.kept, &holder));
     }
     count
 }

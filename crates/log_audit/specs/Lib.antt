@@ -4,9 +4,11 @@ pub mod Cells
 pub mod Chunks
 pub mod Findings
 pub mod Kept
+pub mod KeptVolumes
 pub mod Leads
 pub mod Least
 pub mod Logs
+pub mod OneLog
 pub mod Owning
 pub mod Rows
 pub mod Stored

@@ -1,14 +1,11 @@
 //! Slots that hold documents.
 ghost use Rattle.std.specs.Prelude.{◌≡◌, ℕ, IfSome, IfNone};
 ghost use Rattle.volume_meaning.specs.Slots.{Stores};
-ghost use Rattle.log_audit.specs.Kept.{image_of_kept};
-ghost use Rattle.log_audit.specs.Logs.{IsLog};
+ghost use Rattle.log_audit.specs.KeptVolumes.{image_in};
 ghost use Rattle.log_audit.specs.Stored.{IsStored};
 
 use crate::ended::EndedSlot;
-use crate::kept::KeptCells;
-use crate::log::Log;
-use cell_types::Geometry;
+use crate::kept_volume::KeptVolume;
 use commit_record::document_cells;
 
 /// A slot that is done. `start` is the first cell that it reserves and `length` how many they are: the blocks first,
@@ -47,36 +44,31 @@ impl StoredSlot {
     }
 }
 
-/// A slot of the log, if it is done: no slot is merely committed there. Of the kept cells nothing is asked; they say of
-/// which volume this is the log.
-pub fn stored_slot(
-    _kept: &KeptCells,
-    _geometry: &Geometry,
-    log: &Log,
-    slot: u32,
-) -> Option<StoredSlot>
-    requires { IsLog _geometry.now (image_of_kept _kept.now) log.now }
-    ensures some { IfSome result (λ s. IsStored _geometry.now (image_of_kept _kept.now) s) }
-    ensures same { IfSome result (λ s. s.slot ≡ slot) }
-    ensures none { IfNone result ((start length bytes journal : ℕ)
-        → Stores _geometry.now (image_of_kept _kept.now) slot start length bytes journal → ⊥) }
-{
-    let Some(ended) = log.at(slot) else {
-        return None;
-    };
-    match ended {
-        EndedSlot::Done {
-            start,
-            length,
-            bytes,
-            journal,
-        } => Some(StoredSlot {
-            slot,
-            start,
-            length,
-            bytes,
-            journal,
-        }),
-        EndedSlot::Abandoned { .. } => None,
+impl KeptVolume {
+    /// A slot of the log, if it is done: no slot is merely committed there.
+    pub fn stored_slot(&self, slot: u32) -> Option<StoredSlot>
+        ensures some { IfSome result (λ s. IsStored self.now.geometry (image_in self.now) s) }
+        ensures same { IfSome result (λ s. s.slot ≡ slot) }
+        ensures none { IfNone result ((start length bytes journal : ℕ)
+            → Stores self.now.geometry (image_in self.now) slot start length bytes journal → ⊥) }
+    {
+        let Some(ended) = self.log.at(slot) else {
+            return None;
+        };
+        match ended {
+            EndedSlot::Done {
+                start,
+                length,
+                bytes,
+                journal,
+            } => Some(StoredSlot {
+                slot,
+                start,
+                length,
+                bytes,
+                journal,
+            }),
+            EndedSlot::Abandoned { .. } => None,
+        }
     }
 }

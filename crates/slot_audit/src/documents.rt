@@ -1,31 +1,29 @@
 //! Rule 4: documents.
-ghost use Rattle.std.specs.Prelude.{◌≤◌, ◌+◌, ◌↔◌, ◌≡◌, IsTrue};
+ghost use Rattle.std.specs.Prelude.{◌≤◌, ◌+◌, ◌↔◌, IsTrue};
 ghost use Rattle.volume_meaning.specs.Slots.{cells_for};
 ghost use Rattle.tamper_rules.specs.Rules.{HasDocument, Documents};
+ghost use Rattle.log_audit.specs.KeptVolumes.{FindsIn, HasAllCells};
 ghost use Rattle.log_audit.specs.Kept.{image_of_kept, count_of};
-ghost use Rattle.log_audit.specs.Findings.{FindsBroken};
-ghost use Rattle.log_audit.specs.Logs.{IsLog};
 
-use cell_types::{Evidence, Geometry};
+use cell_types::Evidence;
 use document_store::read_document;
-use log_audit::{KeptCells, Log, Shown, stored_slot};
+use log_audit::{KeptCells, KeptVolume, Shown};
 use tamper_rules::BROKEN_DOCUMENT;
 
 /// The first commit cell at which rule 4 is broken.
-pub fn first_broken_document(kept: &KeptCells, geometry: &Geometry, log: &Log) -> Option<Evidence>
-    requires log { IsLog geometry.now (image_of_kept kept.now) log.now }
-    requires count { count_of kept.now ≡ geometry.now.cells }
-    ensures { FindsBroken geometry.now (image_of_kept kept.now) Documents result }
+pub fn first_broken_document(volume: &KeptVolume) -> Option<Evidence>
+    requires count { HasAllCells volume.now }
+    ensures { FindsIn volume.now Documents result }
 {
-    for slot in 0..geometry.slots() {
-        let Some(stored) = stored_slot(kept, geometry, log, slot) else {
+    for slot in 0..volume.geometry.slots() {
+        let Some(stored) = volume.stored_slot(slot) else {
             continue;
         };
-        if spells_document(kept, stored.document_at(), stored.bytes) {
+        if spells_document(&volume.kept, stored.document_at(), stored.bytes) {
             continue;
         }
-        let cell = geometry.outcome_at(slot);
-        let Some(found) = kept.at(cell) else {
+        let cell = volume.geometry.outcome_at(slot);
+        let Some(found) = volume.kept.at(cell) else {
             unreachable!();
         };
         return Some(Evidence {

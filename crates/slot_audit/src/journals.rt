@@ -1,45 +1,42 @@
 //! Rule 5: journals.
 ghost use Rattle.std.specs.Prelude.{◌↔◌, IsTrue};
 ghost use Rattle.tamper_rules.specs.Rules.{Journals};
+ghost use Rattle.log_audit.specs.KeptVolumes.{FindsIn, KeepsBelow, image_in};
 ghost use Rattle.log_audit.specs.Kept.{image_of_kept};
-ghost use Rattle.log_audit.specs.Findings.{FindsBroken, AreMetBelow};
-ghost use Rattle.log_audit.specs.Logs.{IsLog};
 ghost use Rattle.log_audit.specs.Stored.{FitsInSlot};
 ghost use Rattle.slot_audit.specs.Journals.{BlankFinds, AreAllWritten, AreWritten, IsOrdered, PlacesFind};
 
 use crate::entries::is_in_order;
-use cell_types::{Evidence, Geometry};
-use log_audit::{KeptCells, Log, StoredSlot, stored_slot};
+use cell_types::Evidence;
+use log_audit::{KeptCells, KeptVolume, StoredSlot};
 use tamper_rules::BROKEN_JOURNAL;
 
 /// The first cell at which rule 5 is broken: the commit cell of a slot with a blank journal cell, or else a journal
 /// cell that is not in order.
-pub fn first_broken_journal(kept: &KeptCells, geometry: &Geometry, log: &Log) -> Option<Evidence>
-    requires log { IsLog geometry.now (image_of_kept kept.now) log.now }
-    requires met { AreMetBelow geometry.now (image_of_kept kept.now) 5 }
-    ensures { FindsBroken geometry.now (image_of_kept kept.now) Journals result }
+pub fn first_broken_journal(volume: &KeptVolume) -> Option<Evidence>
+    requires met { KeepsBelow volume.now 5 }
+    ensures { FindsIn volume.now Journals result }
 {
     // Each commit cell lies below each journal cell.
-    if let Some(commit) = first_blank_journal(kept, geometry, log) {
+    if let Some(commit) = first_blank_journal(volume) {
         return Some(commit);
     }
-    first_disorder(kept, geometry, log)
+    first_disorder(volume)
 }
 
 /// The first commit cell of a slot whose journal has a blank cell.
-fn first_blank_journal(kept: &KeptCells, geometry: &Geometry, log: &Log) -> Option<Evidence>
-    requires { IsLog geometry.now (image_of_kept kept.now) log.now }
-    ensures { BlankFinds geometry.now (image_of_kept kept.now) result }
+fn first_blank_journal(volume: &KeptVolume) -> Option<Evidence>
+    ensures { BlankFinds volume.now.geometry (image_in volume.now) result }
 {
-    for slot in 0..geometry.slots() {
-        let Some(stored) = stored_slot(kept, geometry, log, slot) else {
+    for slot in 0..volume.geometry.slots() {
+        let Some(stored) = volume.stored_slot(slot) else {
             continue;
         };
-        if is_journal_written(kept, &stored) {
+        if is_journal_written(&volume.kept, &stored) {
             continue;
         }
-        let cell = geometry.outcome_at(slot);
-        let Some(found) = kept.at(cell) else {
+        let cell = volume.geometry.outcome_at(slot);
+        let Some(found) = volume.kept.at(cell) else {
             unreachable!();
         };
         return Some(Evidence {
@@ -66,17 +63,16 @@ fn is_journal_written(kept: &KeptCells, stored: &StoredSlot) -> bool
 }
 
 /// The first journal cell that is not in order, where each is written.
-fn first_disorder(kept: &KeptCells, geometry: &Geometry, log: &Log) -> Option<Evidence>
-    requires log { IsLog geometry.now (image_of_kept kept.now) log.now }
-    requires met { AreMetBelow geometry.now (image_of_kept kept.now) 5 }
-    requires written { AreAllWritten geometry.now (image_of_kept kept.now) }
-    ensures { FindsBroken geometry.now (image_of_kept kept.now) Journals result }
+fn first_disorder(volume: &KeptVolume) -> Option<Evidence>
+    requires met { KeepsBelow volume.now 5 }
+    requires written { AreAllWritten volume.now.geometry (image_in volume.now) }
+    ensures { FindsIn volume.now Journals result }
 {
-    for slot in 0..geometry.slots() {
-        let Some(stored) = stored_slot(kept, geometry, log, slot) else {
+    for slot in 0..volume.geometry.slots() {
+        let Some(stored) = volume.stored_slot(slot) else {
             continue;
         };
-        let Some(entry) = first_disorder_of(kept, geometry, log, &stored) else {
+        let Some(entry) = first_disorder_of(volume, &stored) else {
             continue;
         };
         return Some(entry);
@@ -85,26 +81,20 @@ fn first_disorder(kept: &KeptCells, geometry: &Geometry, log: &Log) -> Option<Ev
 }
 
 /// The first cell of a slot's journal that is not in order, where each is written.
-fn first_disorder_of(
-    kept: &KeptCells,
-    geometry: &Geometry,
-    log: &Log,
-    stored: &StoredSlot,
-) -> Option<Evidence>
-    requires log { IsLog geometry.now (image_of_kept kept.now) log.now }
-    requires met { AreMetBelow geometry.now (image_of_kept kept.now) 5 }
+fn first_disorder_of(volume: &KeptVolume, stored: &StoredSlot) -> Option<Evidence>
+    requires met { KeepsBelow volume.now 5 }
     requires cells { FitsInSlot stored.now }
-    requires written { AreWritten (image_of_kept kept.now) stored.now }
-    ensures { PlacesFind (IsOrdered geometry.now (image_of_kept kept.now) stored.now) (image_of_kept kept.now) Journals stored.now
-        result }
+    requires written { AreWritten (image_in volume.now) stored.now }
+    ensures { PlacesFind (IsOrdered volume.now.geometry (image_in volume.now) stored.now)
+        (image_in volume.now) Journals stored.now result }
 {
     let from = stored.journal_at();
     for place in 0..stored.journal {
-        if is_in_order(kept, geometry, log, stored, place) {
+        if is_in_order(volume, stored, place) {
             continue;
         }
         let cell = from + place;
-        let Some(found) = kept.at(cell) else {
+        let Some(found) = volume.kept.at(cell) else {
             unreachable!();
         };
         return Some(Evidence {

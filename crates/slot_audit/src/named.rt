@@ -1,15 +1,15 @@
 //! The cells that journals name.
 ghost use Rattle.std.specs.Prelude.{◌↔◌, IsTrue, IfOk, OnOk, Contains};
 ghost use Rattle.std.specs.List.Sorted.{IsNonDecreasing};
+ghost use Rattle.log_audit.specs.KeptVolumes.{image_in};
 ghost use Rattle.log_audit.specs.Kept.{image_of_kept};
-ghost use Rattle.log_audit.specs.Logs.{IsLog};
 ghost use Rattle.log_audit.specs.Stored.{FitsInSlot};
 ghost use Rattle.slot_audit.specs.Strays.{AreNamed};
 ghost use Rattle.slot_audit.specs.Targets.{AddsTargets};
 
 use crate::copies::target_at;
-use cell_types::{Geometry, NoMemory};
-use log_audit::{KeptCells, Log, StoredSlot, stored_slot};
+use cell_types::NoMemory;
+use log_audit::{KeptCells, KeptVolume, StoredSlot};
 use std::alloc::Global;
 
 /// The numbers of the cells that the journals of done slots name, in order, 4 bytes each.
@@ -32,21 +32,15 @@ impl NamedCells {
 }
 
 /// The cells that the journals of a volume's done slots name.
-pub(crate) fn named_cells(
-    alloc: Global,
-    kept: &KeptCells,
-    geometry: &Geometry,
-    log: &Log,
-) -> Result<NamedCells, NoMemory>
-    requires log { IsLog geometry.now (image_of_kept kept.now) log.now }
-    ensures { IfOk result (λ named. AreNamed geometry.now (image_of_kept kept.now) named) }
+pub(crate) fn named_cells(alloc: Global, volume: &KeptVolume) -> Result<NamedCells, NoMemory>
+    ensures { IfOk result (λ named. AreNamed volume.now.geometry (image_in volume.now) named) }
 {
     let mut cells = Vec::new(alloc);
-    for slot in 0..geometry.slots() {
-        let Some(stored) = stored_slot(kept, geometry, log, slot) else {
+    for slot in 0..volume.geometry.slots() {
+        let Some(stored) = volume.stored_slot(slot) else {
             continue;
         };
-        push_targets(kept, &stored, &mut cells)?;
+        push_targets(&volume.kept, &stored, &mut cells)?;
     }
     cells.sort_unstable();
     Ok(NamedCells { cells })

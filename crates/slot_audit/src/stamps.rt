@@ -1,34 +1,28 @@
 //! Stamps in order.
-ghost use Rattle.std.specs.Prelude.{◌≡◌, ◌<◌, ◌+◌, ◌↔◌, ℕ, IsTrue, IfSome, IfNone};
+ghost use Rattle.std.specs.Prelude.{◌<◌, ◌+◌, ◌↔◌, ℕ, IsTrue, IfSome, IfNone};
 ghost use Rattle.volume_meaning.specs.Slots.{HasStamp};
 ghost use Rattle.tamper_rules.specs.Rules.{IsTrueStamp, StrayCells};
+ghost use Rattle.log_audit.specs.KeptVolumes.{FindsPartIn, image_in};
 ghost use Rattle.log_audit.specs.Kept.{image_of_kept};
-ghost use Rattle.log_audit.specs.Least.{FindsPart};
-ghost use Rattle.log_audit.specs.Logs.{IsLog};
 ghost use Rattle.slot_audit.specs.Strays.{IsInTime, IsLatest};
 
 use cell_types::{Evidence, Geometry, RecordCell, STAMPED_VERSION};
-use log_audit::{KeptCells, Log, record_at, stored_slot};
+use log_audit::{KeptCells, KeptVolume, record_at};
 use tamper_rules::STRAY_CELL;
 
 /// The first spare cell that is written and holds no stamp in order.
-pub(crate) fn first_false_stamp(
-    kept: &KeptCells,
-    geometry: &Geometry,
-    log: &Log,
-) -> Option<Evidence>
-    requires log { IsLog geometry.now (image_of_kept kept.now) log.now }
-    ensures { FindsPart geometry.now (image_of_kept kept.now) StrayCells (IsInTime geometry.now (image_of_kept kept.now)) result }
+pub(crate) fn first_false_stamp(volume: &KeptVolume) -> Option<Evidence>
+    ensures { FindsPartIn volume.now StrayCells (IsInTime volume.now.geometry (image_in volume.now)) result }
 {
     let mut latest = None;
-    for slot in 0..geometry.slots() {
+    for slot in 0..volume.geometry.slots() {
         let before = latest;
-        latest = latest_with(kept, geometry, log, slot, before);
-        let cell = geometry.spare_at(slot);
-        let Some(found) = kept.at(cell) else {
+        latest = latest_with(volume, slot, before);
+        let cell = volume.geometry.spare_at(slot);
+        let Some(found) = volume.kept.at(cell) else {
             continue;
         };
-        if !is_true_stamp(kept, geometry, slot, before) {
+        if !is_true_stamp(&volume.kept, &volume.geometry, slot, before) {
             return Some(Evidence {
                 rule: STRAY_CELL,
                 cell,
@@ -76,22 +70,15 @@ fn stamp_at(kept: &KeptCells, geometry: &Geometry, slot: u32) -> Option<u32>
 }
 
 /// The greatest stamp of the done slots up to this one, where that of the slots below it is given.
-fn latest_with(
-    kept: &KeptCells,
-    geometry: &Geometry,
-    log: &Log,
-    slot: u32,
-    latest: Option<u32>,
-) -> Option<u32>
-    requires inside { slot < geometry.now.slots }
-    requires log { IsLog geometry.now (image_of_kept kept.now) log.now }
-    requires latest { IsLatest geometry.now (image_of_kept kept.now) slot latest }
-    ensures { IsLatest geometry.now (image_of_kept kept.now) (slot + 1) result }
+fn latest_with(volume: &KeptVolume, slot: u32, latest: Option<u32>) -> Option<u32>
+    requires inside { slot < volume.now.geometry.slots }
+    requires latest { IsLatest volume.now.geometry (image_in volume.now) slot latest }
+    ensures { IsLatest volume.now.geometry (image_in volume.now) (slot + 1) result }
 {
-    let Some(_stored) = stored_slot(kept, geometry, log, slot) else {
+    let Some(_stored) = volume.stored_slot(slot) else {
         return latest;
     };
-    let Some(seconds) = stamp_at(kept, geometry, slot) else {
+    let Some(seconds) = stamp_at(&volume.kept, &volume.geometry, slot) else {
         return latest;
     };
     let Some(lower) = latest else {

@@ -18,17 +18,15 @@
 //! The cells that journals name are put into a row in order, 4 bytes each, where bisection finds one.
 //!
 //! `specs/Strays.antt` has the rule in its parts.
-ghost use Rattle.std.specs.Prelude.{◌≡◌, IfOk};
+ghost use Rattle.std.specs.Prelude.{IfOk};
 ghost use Rattle.tamper_rules.specs.Rules.{ReserveCells, StrayCells};
-ghost use Rattle.log_audit.specs.Kept.{image_of_kept, count_of};
-ghost use Rattle.log_audit.specs.Findings.{FindsBroken, IsMetAll};
-ghost use Rattle.log_audit.specs.Logs.{IsLog};
+ghost use Rattle.log_audit.specs.KeptVolumes.{FindsIn, HasAllCells, KeepsRule};
 
 use crate::named::named_cells;
 use crate::stamps::first_false_stamp;
 use crate::stray_places::first_unexpected;
-use cell_types::{Evidence, Geometry, NoMemory};
-use log_audit::{KeptCells, Log, lower_of};
+use cell_types::{Evidence, NoMemory};
+use log_audit::{KeptVolume, lower_of};
 use std::alloc::Global;
 
 /// The least cell at which rule 7 is broken. It takes 4 bytes a journal cell.
@@ -36,19 +34,13 @@ use std::alloc::Global;
 /// # Errors
 ///
 /// `NoMemory`.
-pub fn first_broken_stray(
-    alloc: Global,
-    kept: &KeptCells,
-    geometry: &Geometry,
-    log: &Log,
-) -> Result<Option<Evidence>, NoMemory>
-    requires log { IsLog geometry.now (image_of_kept kept.now) log.now }
-    requires met { IsMetAll geometry.now (image_of_kept kept.now) ReserveCells }
-    requires count { count_of kept.now ≡ geometry.now.cells }
-    ensures { IfOk result (λ found. FindsBroken geometry.now (image_of_kept kept.now) StrayCells found) }
+pub fn first_broken_stray(alloc: Global, volume: &KeptVolume) -> Result<Option<Evidence>, NoMemory>
+    requires met { KeepsRule volume.now ReserveCells }
+    requires count { HasAllCells volume.now }
+    ensures { IfOk result (λ found. FindsIn volume.now StrayCells found) }
 {
-    let named = named_cells(alloc, kept, geometry, log)?;
-    let unexpected = first_unexpected(kept, geometry, log, &named);
-    let stamp = first_false_stamp(kept, geometry, log);
+    let named = named_cells(alloc, volume)?;
+    let unexpected = first_unexpected(volume, &named);
+    let stamp = first_false_stamp(volume);
     Ok(lower_of(unexpected, stamp))
 }

@@ -1,29 +1,27 @@
 //! Rule 6: the targets of journals.
 ghost use Rattle.std.specs.Prelude.{◌≡◌, ◌↔◌, Some, IsTrue};
 ghost use Rattle.tamper_rules.specs.Rules.{Targets};
+ghost use Rattle.log_audit.specs.KeptVolumes.{FindsIn, KeepsBelow};
 ghost use Rattle.log_audit.specs.Kept.{image_of_kept};
-ghost use Rattle.log_audit.specs.Findings.{FindsBroken, AreMetBelow};
-ghost use Rattle.log_audit.specs.Logs.{IsLog};
 ghost use Rattle.log_audit.specs.Stored.{FitsInSlot};
 ghost use Rattle.slot_audit.specs.Journals.{IsRedone, IsRedoneAt, PlacesFind};
 
 use crate::copies::target_at;
-use cell_types::{Cell, Evidence, Geometry};
-use log_audit::{KeptCells, Log, StoredSlot, stored_slot};
+use cell_types::{Cell, Evidence};
+use log_audit::{KeptCells, KeptVolume, StoredSlot};
 use tamper_rules::OTHER_TARGET;
 
 /// The first journal cell at which rule 6 is broken. No slot of the log is merely committed, so each target holds the
 /// same as its copy.
-pub fn first_broken_target(kept: &KeptCells, geometry: &Geometry, log: &Log) -> Option<Evidence>
-    requires log { IsLog geometry.now (image_of_kept kept.now) log.now }
-    requires met { AreMetBelow geometry.now (image_of_kept kept.now) 6 }
-    ensures { FindsBroken geometry.now (image_of_kept kept.now) Targets result }
+pub fn first_broken_target(volume: &KeptVolume) -> Option<Evidence>
+    requires met { KeepsBelow volume.now 6 }
+    ensures { FindsIn volume.now Targets result }
 {
-    for slot in 0..geometry.slots() {
-        let Some(stored) = stored_slot(kept, geometry, log, slot) else {
+    for slot in 0..volume.geometry.slots() {
+        let Some(stored) = volume.stored_slot(slot) else {
             continue;
         };
-        let Some(copy) = first_undone_of(kept, &stored) else {
+        let Some(copy) = first_undone_of(&volume.kept, &stored) else {
             continue;
         };
         return Some(copy);

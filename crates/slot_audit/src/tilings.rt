@@ -18,16 +18,15 @@
 //! `specs/Tiles.antt` says what a tile is.
 ghost use Rattle.std.specs.Prelude.{◌↔◌, IsTrue, IfOk};
 ghost use Rattle.tamper_rules.specs.Rules.{Journals, Tilings, TilingRule};
+ghost use Rattle.log_audit.specs.KeptVolumes.{FindsIn, KeepsRule};
 ghost use Rattle.log_audit.specs.Kept.{image_of_kept};
-ghost use Rattle.log_audit.specs.Findings.{FindsBroken, IsMetAll};
-ghost use Rattle.log_audit.specs.Logs.{IsLog};
 ghost use Rattle.log_audit.specs.Stored.{FitsInSlot};
 ghost use Rattle.slot_audit.specs.Tables.{HaveTargets};
 
 use crate::back::follow;
 use crate::table::tiles_of;
-use cell_types::{Evidence, Geometry, NoMemory};
-use log_audit::{KeptCells, Log, StoredSlot, stored_slot};
+use cell_types::{Evidence, NoMemory};
+use log_audit::{KeptCells, KeptVolume, StoredSlot};
 use std::alloc::Global;
 use tamper_rules::UNTILED_BLOCKS;
 
@@ -36,25 +35,19 @@ use tamper_rules::UNTILED_BLOCKS;
 /// # Errors
 ///
 /// `NoMemory`.
-pub fn first_broken_tiling(
-    alloc: Global,
-    kept: &KeptCells,
-    geometry: &Geometry,
-    log: &Log,
-) -> Result<Option<Evidence>, NoMemory>
-    requires log { IsLog geometry.now (image_of_kept kept.now) log.now }
-    requires journals { IsMetAll geometry.now (image_of_kept kept.now) Journals }
-    ensures { IfOk result (λ found. FindsBroken geometry.now (image_of_kept kept.now) Tilings found) }
+pub fn first_broken_tiling(alloc: Global, volume: &KeptVolume) -> Result<Option<Evidence>, NoMemory>
+    requires journals { KeepsRule volume.now Journals }
+    ensures { IfOk result (λ found. FindsIn volume.now Tilings found) }
 {
-    for slot in 0..geometry.slots() {
-        let Some(stored) = stored_slot(kept, geometry, log, slot) else {
+    for slot in 0..volume.geometry.slots() {
+        let Some(stored) = volume.stored_slot(slot) else {
             continue;
         };
-        if is_tiled(alloc, kept, &stored)? {
+        if is_tiled(alloc, &volume.kept, &stored)? {
             continue;
         }
-        let cell = geometry.outcome_at(slot);
-        let Some(found) = kept.at(cell) else {
+        let cell = volume.geometry.outcome_at(slot);
+        let Some(found) = volume.kept.at(cell) else {
             unreachable!();
         };
         return Ok(Some(Evidence {

@@ -3,10 +3,9 @@ ghost use Rattle.std.specs.Prelude.{◌≡◌, ◌<◌, ◌≤◌, ◌+◌, ◌^
 ghost use Rattle.cell_types.specs.Layout.{pool_at};
 ghost use Rattle.volume_meaning.specs.Nodes.{IsNode};
 ghost use Rattle.tamper_rules.specs.Rules.{Children, Journals, LeadsDownWell, ReserveCells};
+ghost use Rattle.log_audit.specs.KeptVolumes.{FindsIn, FindsPartIn, KeepsRule, image_in};
 ghost use Rattle.log_audit.specs.Kept.{image_of_kept};
-ghost use Rattle.log_audit.specs.Findings.{FindsBroken, IsMetAll};
-ghost use Rattle.log_audit.specs.Least.{FindsPart};
-ghost use Rattle.log_audit.specs.Logs.{IsLog};
+ghost use Rattle.log_audit.specs.Findings.{IsMetAll};
 ghost use Rattle.log_audit.specs.Stored.{IsStored};
 ghost use Rattle.slot_audit.specs.Copying.{HasTarget};
 ghost use Rattle.list_audit.specs.Blocks.{AreListBlocks};
@@ -19,7 +18,7 @@ use crate::looks::child_at;
 use crate::nodes::{LAST_LEVEL, LevelNode};
 use cell_types::{Cell, Evidence, Geometry, NoMemory};
 use list_audit::ListBlock;
-use log_audit::{KeptCells, Log, StoredSlot, has_between, lower_of, owner_of, stored_slot};
+use log_audit::{KeptCells, KeptVolume, StoredSlot, has_between, lower_of};
 use slot_audit::journal_place_of;
 use std::alloc::Global;
 use tamper_rules::LOST_CHILD;
@@ -28,51 +27,41 @@ use volume_meaning::{BLOCK_CELLS, NODE_BUCKETS, NODE_CELLS};
 /// The least child cell at which rule 12 is broken, among those of all nodes, where rules 1 and 5 are kept.
 pub fn first_broken_child(
     alloc: Global,
-    kept: &KeptCells,
-    geometry: &Geometry,
-    log: &Log,
+    volume: &KeptVolume,
     nodes: &[LevelNode],
     blocks: &[ListBlock],
 ) -> Result<Option<Evidence>, NoMemory>
-    requires log { IsLog geometry.now (image_of_kept kept.now) log.now }
-    requires met { IsMetAll geometry.now (image_of_kept kept.now) ReserveCells }
-    requires journals { IsMetAll geometry.now (image_of_kept kept.now) Journals }
-    requires nodes { AreNodes geometry.now (image_of_kept kept.now) nodes.now }
-    requires blocks { AreListBlocks geometry.now (image_of_kept kept.now) blocks.now }
-    ensures { IfOk result (λ found. FindsBroken geometry.now (image_of_kept kept.now) Children found) }
+    requires met { KeepsRule volume.now ReserveCells }
+    requires journals { KeepsRule volume.now Journals }
+    requires nodes { AreNodes volume.now.geometry (image_in volume.now) nodes.now }
+    requires blocks { AreListBlocks volume.now.geometry (image_in volume.now) blocks.now }
+    ensures { IfOk result (λ found. FindsIn volume.now Children found) }
 {
-    let around = around_of(alloc, kept, geometry, nodes, blocks)?;
+    let around = around_of(alloc, &volume.kept, &volume.geometry, nodes, blocks)?;
     let mut least = None;
     for place in nodes {
-        let found = broken_under(kept, geometry, log, &around, place);
+        let found = broken_under(volume, &around, place);
         least = lower_of(least, found);
     }
     Ok(least)
 }
 
 /// The first child cell of a node at which rule 12 is broken.
-fn broken_under(
-    kept: &KeptCells,
-    geometry: &Geometry,
-    log: &Log,
-    around: &Around,
-    place: &LevelNode,
-) -> Option<Evidence>
-    requires log { IsLog geometry.now (image_of_kept kept.now) log.now }
-    requires met { IsMetAll geometry.now (image_of_kept kept.now) ReserveCells }
-    requires journals { IsMetAll geometry.now (image_of_kept kept.now) Journals }
-    requires around { AreAround geometry.now (image_of_kept kept.now) around.now }
-    requires node { IsNode geometry.now (image_of_kept kept.now) place.now.level place.now.node }
-    ensures { FindsPart geometry.now (image_of_kept kept.now) Children
-        (AsksChild geometry.now (image_of_kept kept.now) place.now.level place.now.node) result }
+fn broken_under(volume: &KeptVolume, around: &Around, place: &LevelNode) -> Option<Evidence>
+    requires met { KeepsRule volume.now ReserveCells }
+    requires journals { KeepsRule volume.now Journals }
+    requires around { AreAround volume.now.geometry (image_in volume.now) around.now }
+    requires node { IsNode volume.now.geometry (image_in volume.now) place.now.level place.now.node }
+    ensures { FindsPartIn volume.now Children
+        (AsksChild volume.now.geometry (image_in volume.now) place.now.level place.now.node) result }
 {
-    let _cells = geometry.cells();
+    let _cells = volume.geometry.cells();
     for x in 0..NODE_BUCKETS {
         let cell = place.node + NODE_BUCKETS + x;
-        let Some(found) = kept.at(cell) else {
+        let Some(found) = volume.kept.at(cell) else {
             continue;
         };
-        if leads_down_well(kept, geometry, log, around, place, x) {
+        if leads_down_well(volume, around, place, x) {
             continue;
         }
         return Some(Evidence {
@@ -85,84 +74,67 @@ fn broken_under(
 }
 
 /// Whether child cell x of a node leads down well.
-fn leads_down_well(
-    kept: &KeptCells,
-    geometry: &Geometry,
-    log: &Log,
-    around: &Around,
-    place: &LevelNode,
-    x: u32,
-) -> bool
-    requires log { IsLog geometry.now (image_of_kept kept.now) log.now }
-    requires met { IsMetAll geometry.now (image_of_kept kept.now) ReserveCells }
-    requires journals { IsMetAll geometry.now (image_of_kept kept.now) Journals }
-    requires around { AreAround geometry.now (image_of_kept kept.now) around.now }
+fn leads_down_well(volume: &KeptVolume, around: &Around, place: &LevelNode, x: u32) -> bool
+    requires met { KeepsRule volume.now ReserveCells }
+    requires journals { KeepsRule volume.now Journals }
+    requires around { AreAround volume.now.geometry (image_in volume.now) around.now }
     requires inside { place.now.node + 16 + x < 2 ^ 31 }
-    ensures { IsTrue result ↔ LeadsDownWell geometry.now (image_of_kept kept.now) place.now.level place.now.node x }
+    ensures { IsTrue result ↔ LeadsDownWell volume.now.geometry (image_in volume.now) place.now.level place.now.node x }
 {
     let cell = place.node + NODE_BUCKETS + x;
-    let Some(target) = child_at(kept, geometry, cell) else {
+    let Some(target) = child_at(&volume.kept, &volume.geometry, cell) else {
         return false;
     };
     if place.level >= LAST_LEVEL {
         return false;
     }
-    if kept.at(place.node + x).is_none() {
+    if volume.kept.at(place.node + x).is_none() {
         return false;
     }
-    is_well_led(kept, geometry, log, around, cell, target)
+    is_well_led(volume, around, cell, target)
 }
 
 /// Whether the target of a child cell lies before the edge, is journaled with the cell and is clear, and the cell is
 /// the first to it.
-fn is_well_led(
-    kept: &KeptCells,
-    geometry: &Geometry,
-    log: &Log,
-    around: &Around,
-    cell: u32,
-    target: u32,
-) -> bool
-    requires log { IsLog geometry.now (image_of_kept kept.now) log.now }
-    requires met { IsMetAll geometry.now (image_of_kept kept.now) ReserveCells }
-    requires journals { IsMetAll geometry.now (image_of_kept kept.now) Journals }
-    requires around { AreAround geometry.now (image_of_kept kept.now) around.now }
+fn is_well_led(volume: &KeptVolume, around: &Around, cell: u32, target: u32) -> bool
+    requires met { KeepsRule volume.now ReserveCells }
+    requires journals { KeepsRule volume.now Journals }
+    requires around { AreAround volume.now.geometry (image_in volume.now) around.now }
     requires inside { cell < 2 ^ 31 }
-    requires leads { HasChildInPool geometry.now (image_of_kept kept.now) cell target }
-    ensures { IsTrue result ↔ IsWellLed geometry.now (image_of_kept kept.now) cell target }
+    requires leads { HasChildInPool volume.now.geometry (image_in volume.now) cell target }
+    ensures { IsTrue result ↔ IsWellLed volume.now.geometry (image_in volume.now) cell target }
 {
-    let _cells = geometry.cells();
-    if log.edge < target + NODE_CELLS {
+    let _cells = volume.geometry.cells();
+    if volume.log.edge < target + NODE_CELLS {
         return false;
     }
-    if !is_journaled(kept, geometry, log, cell, target) {
+    if !is_journaled(volume, cell, target) {
         return false;
     }
     let number = u64::from(target) * TARGET_STEP;
     if has_between(&around.leads, number, number + u64::from(cell)) {
         return false;
     }
-    is_clear(kept, geometry, around, target)
+    is_clear(&volume.kept, &volume.geometry, around, target)
 }
 
 /// Whether the slot in whose blocks the target lies has a copy of the child cell in its journal.
-fn is_journaled(kept: &KeptCells, geometry: &Geometry, log: &Log, cell: u32, target: u32) -> bool
-    requires log { IsLog geometry.now (image_of_kept kept.now) log.now }
-    requires met { IsMetAll geometry.now (image_of_kept kept.now) ReserveCells }
-    requires journals { IsMetAll geometry.now (image_of_kept kept.now) Journals }
-    requires leads { HasChildInPool geometry.now (image_of_kept kept.now) cell target }
-    ensures { IsTrue result ↔ IsJournaled geometry.now (image_of_kept kept.now) cell target }
+fn is_journaled(volume: &KeptVolume, cell: u32, target: u32) -> bool
+    requires met { KeepsRule volume.now ReserveCells }
+    requires journals { KeepsRule volume.now Journals }
+    requires leads { HasChildInPool volume.now.geometry (image_in volume.now) cell target }
+    ensures { IsTrue result ↔ IsJournaled volume.now.geometry (image_in volume.now) cell target }
 {
-    let Some(owner) = owner_of(kept, geometry, log, target) else {
+    let Some(owner) = volume.owner_of(target) else {
         return false;
     };
-    let Some(stored) = stored_slot(kept, geometry, log, owner) else {
+    let Some(stored) = volume.stored_slot(owner) else {
         return false;
     };
-    let Some(own) = kept.at(cell) else {
+    let Some(own) = volume.kept.at(cell) else {
         return false;
     };
-    has_copy(kept, geometry, &stored, cell, own)
+    has_copy(&volume.kept, &volume.geometry, &stored, cell, own)
 }
 
 /// Whether the slot's journal holds the same as this cell, in which that stands.

@@ -1,33 +1,29 @@
 //! The identifiers of documents.
 ghost use Rattle.std.specs.Prelude.{◌≡◌, ◌≤◌, ◌↔◌, ℕ, List, IsTrue, IfSome, IfNone};
 ghost use Rattle.volume_meaning.specs.Documents.{Stands};
-ghost use Rattle.volume_meaning.specs.Volumes.{IsVolume};
 ghost use Rattle.volume_meaning.specs.declared.limits.TheConstants.{MAX_IDENTIFIER_BYTES};
 ghost use Rattle.document_store.specs.Heads.{id_of};
 ghost use Rattle.tamper_rules.specs.Rules.{Documents};
-ghost use Rattle.log_audit.specs.Kept.{image_of_kept, count_of};
-ghost use Rattle.log_audit.specs.Findings.{IsMetAll};
-ghost use Rattle.log_audit.specs.Logs.{IsLog};
+ghost use Rattle.log_audit.specs.KeptVolumes.{HasAllCells, IsStated, KeepsRule, image_in};
 ghost use Rattle.tree_audit.specs.Documents.{HasDigest, HasHead};
 
-use cell_types::Geometry;
 use document_store::{Head, Position, read_head};
-use log_audit::{KeptCells, Log, Shown, stored_slot};
+use log_audit::{KeptVolume, Shown};
 use sha2::{Digest, Sha256};
 
 /// What stands before the body of the document of a slot, if the slot is done, where rule 4 is kept.
-pub(crate) fn head_of(kept: &KeptCells, geometry: &Geometry, log: &Log, slot: u32) -> Option<Head>
-    requires volume { IsVolume geometry.now.cells (image_of_kept kept.now) geometry.now }
-    requires count { count_of kept.now ≡ geometry.now.cells }
-    requires log { IsLog geometry.now (image_of_kept kept.now) log.now }
-    requires documents { IsMetAll geometry.now (image_of_kept kept.now) Documents }
-    ensures some { IfSome result (λ head. HasHead geometry.now (image_of_kept kept.now) slot head) }
-    ensures none { IfNone result ((id body : List ℕ) → Stands geometry.now.cells (image_of_kept kept.now) slot id body → ⊥) }
+pub(crate) fn head_of(volume: &KeptVolume, slot: u32) -> Option<Head>
+    requires stated { IsStated volume.now }
+    requires count { HasAllCells volume.now }
+    requires documents { KeepsRule volume.now Documents }
+    ensures some { IfSome result (λ head. HasHead volume.now.geometry (image_in volume.now) slot head) }
+    ensures none { IfNone result ((id body : List ℕ)
+        → Stands volume.now.geometry.cells (image_in volume.now) slot id body → ⊥) }
 {
-    let Some(stored) = stored_slot(kept, geometry, log, slot) else {
+    let Some(stored) = volume.stored_slot(slot) else {
         return None;
     };
-    let mut shown = Shown::new(kept);
+    let mut shown = Shown::new(&volume.kept);
     let start = stored.document_at();
     let mut position = Position::new(start, stored.bytes);
     // Its cells are known to spell a document. So what stands before the body is enough, 14 cells at most: who asks for
@@ -39,20 +35,15 @@ pub(crate) fn head_of(kept: &KeptCells, geometry: &Geometry, log: &Log, slot: u3
 }
 
 /// The SHA-256 of the identifier of the document of a slot, if the slot is done, where rule 4 is kept.
-pub(crate) fn digest_of(
-    kept: &KeptCells,
-    geometry: &Geometry,
-    log: &Log,
-    slot: u32,
-) -> Option<[u8; 32]>
-    requires volume { IsVolume geometry.now.cells (image_of_kept kept.now) geometry.now }
-    requires count { count_of kept.now ≡ geometry.now.cells }
-    requires log { IsLog geometry.now (image_of_kept kept.now) log.now }
-    requires documents { IsMetAll geometry.now (image_of_kept kept.now) Documents }
-    ensures some { IfSome result (λ digest. HasDigest geometry.now (image_of_kept kept.now) slot digest) }
-    ensures none { IfNone result ((id body : List ℕ) → Stands geometry.now.cells (image_of_kept kept.now) slot id body → ⊥) }
+pub(crate) fn digest_of(volume: &KeptVolume, slot: u32) -> Option<[u8; 32]>
+    requires stated { IsStated volume.now }
+    requires count { HasAllCells volume.now }
+    requires documents { KeepsRule volume.now Documents }
+    ensures some { IfSome result (λ digest. HasDigest volume.now.geometry (image_in volume.now) slot digest) }
+    ensures none { IfNone result ((id body : List ℕ)
+        → Stands volume.now.geometry.cells (image_in volume.now) slot id body → ⊥) }
 {
-    let Some(head) = head_of(kept, geometry, log, slot) else {
+    let Some(head) = head_of(volume, slot) else {
         return None;
     };
     Some(Sha256::digest(identifier(&head)))

@@ -1,12 +1,11 @@
 //! Rule 10 at one pointer place.
-ghost use Rattle.std.specs.Prelude.{◌≡◌, ◌<◌, ◌≤◌, ◌+◌, ◌^◌, ◌↔◌, ℕ, IsTrue, IfSome, IfNone};
+ghost use Rattle.std.specs.Prelude.{◌<◌, ◌≤◌, ◌+◌, ◌^◌, ◌↔◌, ℕ, IsTrue, IfSome, IfNone};
 ghost use Rattle.cell_types.specs.declared.record_cell.RecordCell.TheVariants.{Jump};
 ghost use Rattle.volume_meaning.specs.Nodes.{IsBlockOf};
 ghost use Rattle.volume_meaning.specs.Volumes.{Holds};
 ghost use Rattle.tamper_rules.specs.Rules.{LeadsWell};
+ghost use Rattle.log_audit.specs.KeptVolumes.{KeepsBelow, image_in};
 ghost use Rattle.log_audit.specs.Kept.{image_of_kept};
-ghost use Rattle.log_audit.specs.Findings.{AreMetBelow};
-ghost use Rattle.log_audit.specs.Logs.{IsLog};
 ghost use Rattle.tree_audit.specs.Leading.{IsBeforeEdge, IsOwned};
 ghost use Rattle.tree_audit.specs.Occupied.{AreOccupied};
 
@@ -14,46 +13,44 @@ use crate::occupied::OccupiedCells;
 use crate::spans::is_in_span;
 use cell_types::{Geometry, RecordCell};
 use list_audit::ListBlock;
-use log_audit::{KeptCells, Log, owner_of, record_at};
+use log_audit::{KeptCells, KeptVolume, Log, record_at};
 use volume_meaning::BLOCK_CELLS;
 
 /// Whether the pointer of this level and digit leads well from a block.
 pub(crate) fn leads_well(
-    kept: &KeptCells,
-    geometry: &Geometry,
-    log: &Log,
+    volume: &KeptVolume,
     occupied: &OccupiedCells,
     listed: &ListBlock,
     level: u32,
     digit: u32,
 ) -> bool
-    requires log { IsLog geometry.now (image_of_kept kept.now) log.now }
-    requires met { AreMetBelow geometry.now (image_of_kept kept.now) 10 }
-    requires occupied { AreOccupied geometry.now (image_of_kept kept.now) occupied.now }
-    requires block { IsBlockOf geometry.now (image_of_kept kept.now) listed.now.list listed.now.block }
+    requires met { KeepsBelow volume.now 10 }
+    requires occupied { AreOccupied volume.now.geometry (image_in volume.now) occupied.now }
+    requires block { IsBlockOf volume.now.geometry (image_in volume.now) listed.now.list listed.now.block }
     requires room { listed.now.block + 256 ≤ 2 ^ 31 }
     requires level { level < 8 }
     requires some { 1 ≤ digit }
     requires digit { digit ≤ 15 }
-    ensures { IsTrue result ↔ LeadsWell geometry.now (image_of_kept kept.now) listed.now.list listed.now.block level digit }
+    ensures { IsTrue result
+        ↔ LeadsWell volume.now.geometry (image_in volume.now) listed.now.list listed.now.block level digit }
 {
-    let _cells = geometry.cells();
-    let Some(target) = jump_at(kept, listed.block + (127 + 15 * level + digit)) else {
+    let _cells = volume.geometry.cells();
+    let Some(target) = jump_at(&volume.kept, listed.block + (127 + 15 * level + digit)) else {
         return false;
     };
-    if !is_inside(geometry, log, target) {
+    if !is_inside(&volume.geometry, &volume.log, target) {
         return false;
     }
-    if !is_owned(kept, geometry, log, target) {
+    if !is_owned(volume, target) {
         return false;
     }
-    if !is_in_span(kept, geometry, listed, level, digit, target) {
+    if !is_in_span(&volume.kept, &volume.geometry, listed, level, digit, target) {
         return false;
     }
-    if !occupied.is_alone(kept, geometry, listed.list, target) {
+    if !occupied.is_alone(&volume.kept, &volume.geometry, listed.list, target) {
         return false;
     }
-    occupied.is_off_nodes(kept, geometry, target)
+    occupied.is_off_nodes(&volume.kept, &volume.geometry, target)
 }
 
 /// The target of the jump cell that stands there, if one does.
@@ -85,16 +82,15 @@ fn is_inside(geometry: &Geometry, log: &Log, target: u32) -> bool
 }
 
 /// Whether they lie in the block part of one slot.
-fn is_owned(kept: &KeptCells, geometry: &Geometry, log: &Log, target: u32) -> bool
-    requires log { IsLog geometry.now (image_of_kept kept.now) log.now }
-    requires met { AreMetBelow geometry.now (image_of_kept kept.now) 10 }
+fn is_owned(volume: &KeptVolume, target: u32) -> bool
+    requires met { KeepsBelow volume.now 10 }
     requires room { target + 256 ≤ 2 ^ 31 }
-    ensures { IsTrue result ↔ IsOwned geometry.now (image_of_kept kept.now) target }
+    ensures { IsTrue result ↔ IsOwned volume.now.geometry (image_in volume.now) target }
 {
-    let Some(first) = owner_of(kept, geometry, log, target) else {
+    let Some(first) = volume.owner_of(target) else {
         return false;
     };
-    let Some(last) = owner_of(kept, geometry, log, target + (BLOCK_CELLS - 1)) else {
+    let Some(last) = volume.owner_of(target + (BLOCK_CELLS - 1)) else {
         return false;
     };
     first == last

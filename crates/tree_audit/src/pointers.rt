@@ -12,14 +12,11 @@
 //!
 //! Which blocks and nodes a target meets is asked of two rows of numbers in order, of 8 bytes a block and a node, by
 //! bisection.
-ghost use Rattle.std.specs.Prelude.{◌<◌, ◌≤◌, ◌+◌, ◌^◌, IfOk};
+ghost use Rattle.std.specs.Prelude.{◌<◌, ◌+◌, IfOk};
 ghost use Rattle.volume_meaning.specs.Nodes.{IsBlockOf};
 ghost use Rattle.tamper_rules.specs.Rules.{Pointers};
-ghost use Rattle.log_audit.specs.Kept.{image_of_kept};
+ghost use Rattle.log_audit.specs.KeptVolumes.{FindsIn, FindsPartIn, KeepsBelow, image_in};
 ghost use Rattle.list_audit.specs.Blocks.{AreListBlocks};
-ghost use Rattle.log_audit.specs.Findings.{AreMetBelow, FindsBroken};
-ghost use Rattle.log_audit.specs.Least.{FindsPart};
-ghost use Rattle.log_audit.specs.Logs.{IsLog};
 ghost use Rattle.tree_audit.specs.Nodes.{AreNodes};
 ghost use Rattle.tree_audit.specs.Leading.{PointerAsks};
 ghost use Rattle.tree_audit.specs.Occupied.{AreOccupied};
@@ -27,9 +24,9 @@ ghost use Rattle.tree_audit.specs.Occupied.{AreOccupied};
 use crate::leads::leads_well;
 use crate::nodes::LevelNode;
 use crate::occupied::OccupiedCells;
-use cell_types::{Evidence, Geometry, NoMemory};
+use cell_types::{Evidence, NoMemory};
 use list_audit::ListBlock;
-use log_audit::{KeptCells, Log, lower_of};
+use log_audit::{KeptVolume, lower_of};
 use std::alloc::Global;
 use tamper_rules::LOST_POINTER;
 
@@ -48,51 +45,43 @@ const DIGITS: u32 = 15;
 /// `NoMemory`.
 pub fn first_broken_pointer(
     alloc: Global,
-    kept: &KeptCells,
-    geometry: &Geometry,
-    log: &Log,
+    volume: &KeptVolume,
     blocks: &[ListBlock],
     nodes: &[LevelNode],
 ) -> Result<Option<Evidence>, NoMemory>
-    requires log { IsLog geometry.now (image_of_kept kept.now) log.now }
-    requires met { AreMetBelow geometry.now (image_of_kept kept.now) 10 }
-    requires blocks { AreListBlocks geometry.now (image_of_kept kept.now) blocks.now }
-    requires nodes { AreNodes geometry.now (image_of_kept kept.now) nodes.now }
-    ensures { IfOk result (λ found. FindsBroken geometry.now (image_of_kept kept.now) Pointers found) }
+    requires met { KeepsBelow volume.now 10 }
+    requires blocks { AreListBlocks volume.now.geometry (image_in volume.now) blocks.now }
+    requires nodes { AreNodes volume.now.geometry (image_in volume.now) nodes.now }
+    ensures { IfOk result (λ found. FindsIn volume.now Pointers found) }
 {
-    let occupied = OccupiedCells::of(alloc, kept, geometry, blocks, nodes)?;
+    let occupied = OccupiedCells::of(alloc, &volume.kept, &volume.geometry, blocks, nodes)?;
     let mut least = None;
     for block in blocks {
-        least = lower_of(least, first_in_block(kept, geometry, log, &occupied, block));
+        least = lower_of(least, first_in_block(volume, &occupied, block));
     }
     Ok(least)
 }
 
 /// The first pointer place of a block at which rule 10 is broken.
 fn first_in_block(
-    kept: &KeptCells,
-    geometry: &Geometry,
-    log: &Log,
+    volume: &KeptVolume,
     occupied: &OccupiedCells,
     listed: &ListBlock,
 ) -> Option<Evidence>
-    requires log { IsLog geometry.now (image_of_kept kept.now) log.now }
-    requires met { AreMetBelow geometry.now (image_of_kept kept.now) 10 }
-    requires occupied { AreOccupied geometry.now (image_of_kept kept.now) occupied.now }
-    requires block { IsBlockOf geometry.now (image_of_kept kept.now) listed.now.list listed.now.block }
-    ensures { FindsPart geometry.now (image_of_kept kept.now) Pointers
-        (PointerAsks geometry.now (image_of_kept kept.now) listed.now.list listed.now.block) result }
+    requires met { KeepsBelow volume.now 10 }
+    requires occupied { AreOccupied volume.now.geometry (image_in volume.now) occupied.now }
+    requires block { IsBlockOf volume.now.geometry (image_in volume.now) listed.now.list listed.now.block }
+    ensures { FindsPartIn volume.now Pointers
+        (PointerAsks volume.now.geometry (image_in volume.now) listed.now.list listed.now.block) result }
 {
-    let _cells = geometry.cells();
+    let _cells = volume.geometry.cells();
     for pointer in 0..POINTER_PLACES {
         let cell = listed.block + (FIRST_POINTER + pointer);
-        let Some(found) = kept.at(cell) else {
+        let Some(found) = volume.kept.at(cell) else {
             continue;
         };
         if !leads_well(
-            kept,
-            geometry,
-            log,
+            volume,
             occupied,
             listed,
             pointer / DIGITS,

@@ -1,45 +1,41 @@
 //! Rule 14: the hash trails of documents.
 ghost use Rattle.std.specs.Prelude.{◌≡◌, ◌≤◌, ◌↔◌, IsTrue};
 ghost use Rattle.sha2.specs.Sha256.{sha256};
-ghost use Rattle.volume_meaning.specs.Volumes.{IsVolume};
 ghost use Rattle.volume_meaning.specs.declared.limits.TheConstants.{MAX_IDENTIFIER_BYTES};
 ghost use Rattle.tamper_rules.specs.Rules.{Documents, Paths};
 ghost use Rattle.document_store.specs.Heads.{id_of};
-ghost use Rattle.log_audit.specs.Kept.{image_of_kept, count_of};
-ghost use Rattle.log_audit.specs.Findings.{FindsBroken, IsMetAll};
-ghost use Rattle.log_audit.specs.Logs.{IsLog};
+ghost use Rattle.log_audit.specs.KeptVolumes.{FindsIn, HasAllCells, IsStated, KeepsRule, image_in};
 ghost use Rattle.tree_audit.specs.Paths.{HasRootTrail, IsOther, IsBucketOfSlot};
 
 use crate::buckets::is_fingerprint;
 use crate::documents::{head_of, identifier, same_identifier};
 use crate::looks::{HeldBucket, bucket_at, child_at};
 use crate::paths::LEVELS;
-use cell_types::{Evidence, Geometry};
+use cell_types::Evidence;
 use document_store::Head;
 use hash_tree::nibble_of;
-use log_audit::{KeptCells, Log};
+use log_audit::KeptVolume;
 use sha2::{Digest, Sha256};
 use tamper_rules::MISSING_PATH;
 use volume_meaning::NODE_BUCKETS;
 
 /// The first done cell at which rule 14 is broken, where rule 4 is kept. Only hash trails are looked for: of two
 /// documents with one identifier one alone has such a trail.
-pub fn first_broken_path(kept: &KeptCells, geometry: &Geometry, log: &Log) -> Option<Evidence>
-    requires volume { IsVolume geometry.now.cells (image_of_kept kept.now) geometry.now }
-    requires count { count_of kept.now ≡ geometry.now.cells }
-    requires log { IsLog geometry.now (image_of_kept kept.now) log.now }
-    requires documents { IsMetAll geometry.now (image_of_kept kept.now) Documents }
-    ensures { FindsBroken geometry.now (image_of_kept kept.now) Paths result }
+pub fn first_broken_path(volume: &KeptVolume) -> Option<Evidence>
+    requires stated { IsStated volume.now }
+    requires count { HasAllCells volume.now }
+    requires documents { KeepsRule volume.now Documents }
+    ensures { FindsIn volume.now Paths result }
 {
-    for slot in 0..geometry.slots() {
-        let Some(head) = head_of(kept, geometry, log, slot) else {
+    for slot in 0..volume.geometry.slots() {
+        let Some(head) = head_of(volume, slot) else {
             continue;
         };
-        if has_hash_trail(kept, geometry, log, slot, &head) {
+        if has_hash_trail(volume, slot, &head) {
             continue;
         }
-        let cell = geometry.done_at(slot);
-        let Some(found) = kept.at(cell) else {
+        let cell = volume.geometry.done_at(slot);
+        let Some(found) = volume.kept.at(cell) else {
             continue;
         };
         return Some(Evidence {
@@ -52,29 +48,28 @@ pub fn first_broken_path(kept: &KeptCells, geometry: &Geometry, log: &Log) -> Op
 }
 
 /// Whether the slot has a hash trail as that of the head's identifier.
-fn has_hash_trail(kept: &KeptCells, geometry: &Geometry, log: &Log, slot: u32, head: &Head) -> bool
-    requires volume { IsVolume geometry.now.cells (image_of_kept kept.now) geometry.now }
-    requires count { count_of kept.now ≡ geometry.now.cells }
-    requires log { IsLog geometry.now (image_of_kept kept.now) log.now }
-    requires documents { IsMetAll geometry.now (image_of_kept kept.now) Documents }
+fn has_hash_trail(volume: &KeptVolume, slot: u32, head: &Head) -> bool
+    requires stated { IsStated volume.now }
+    requires count { HasAllCells volume.now }
+    requires documents { KeepsRule volume.now Documents }
     requires room { head.now.id_length ≤ MAX_IDENTIFIER_BYTES }
-    ensures { IsTrue result ↔ HasRootTrail geometry.now (image_of_kept kept.now) (id_of head.now) slot }
+    ensures { IsTrue result ↔ HasRootTrail volume.now.geometry (image_in volume.now) (id_of head.now) slot }
 {
-    let _cells = geometry.cells();
+    let _cells = volume.geometry.cells();
     let digest = Sha256::digest(identifier(head));
-    let mut node = geometry.root_at();
+    let mut node = volume.geometry.root_at();
     for level in 0..LEVELS {
         let x = u32::from(nibble_of(&digest, level));
-        let Some(bucket) = bucket_at(kept, node + x) else {
+        let Some(bucket) = bucket_at(&volume.kept, node + x) else {
             return false;
         };
         if is_own(&bucket, slot, &digest) {
             return true;
         }
-        if !is_passed(kept, geometry, log, &bucket, head, &digest) {
+        if !is_passed(volume, &bucket, head, &digest) {
             return false;
         }
-        let Some(under) = child_at(kept, geometry, node + NODE_BUCKETS + x) else {
+        let Some(under) = child_at(&volume.kept, &volume.geometry, node + NODE_BUCKETS + x) else {
             return false;
         };
         node = under;
@@ -93,26 +88,18 @@ fn is_own(bucket: &HeldBucket, slot: u32, digest: &[u8; 32]) -> bool
 }
 
 /// Whether a hash trail of the head's identifier passes the bucket.
-fn is_passed(
-    kept: &KeptCells,
-    geometry: &Geometry,
-    log: &Log,
-    bucket: &HeldBucket,
-    head: &Head,
-    digest: &[u8; 32],
-) -> bool
-    requires volume { IsVolume geometry.now.cells (image_of_kept kept.now) geometry.now }
-    requires count { count_of kept.now ≡ geometry.now.cells }
-    requires log { IsLog geometry.now (image_of_kept kept.now) log.now }
-    requires documents { IsMetAll geometry.now (image_of_kept kept.now) Documents }
+fn is_passed(volume: &KeptVolume, bucket: &HeldBucket, head: &Head, digest: &[u8; 32]) -> bool
+    requires stated { IsStated volume.now }
+    requires count { HasAllCells volume.now }
+    requires documents { KeepsRule volume.now Documents }
     requires room { head.now.id_length ≤ MAX_IDENTIFIER_BYTES }
     requires digest { digest.now ≡ sha256 (id_of head.now) }
-    ensures { IsTrue result ↔ IsOther geometry.now (image_of_kept kept.now) (id_of head.now) bucket.now }
+    ensures { IsTrue result ↔ IsOther volume.now.geometry (image_in volume.now) (id_of head.now) bucket.now }
 {
     if !is_fingerprint(&bucket.fingerprint, digest) {
         return true;
     }
-    let Some(other) = head_of(kept, geometry, log, bucket.slot) else {
+    let Some(other) = head_of(volume, bucket.slot) else {
         return false;
     };
     if same_identifier(&other, head) {

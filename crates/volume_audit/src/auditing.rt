@@ -34,5 +34,5 @@ pub fn audit_metered<D: Device, M: Meter>(
     let _ready = settle(device)?;
     let kept = keep_cells(alloc, device)?;
     let volume = volume_of(kept.at(0), kept.count())?;
-    judge(alloc, &kept, &volume.geometry, meter)
+    judge(alloc, kept, volume.geometry, meter)
 }

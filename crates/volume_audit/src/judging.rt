@@ -1,103 +1,232 @@
-//! The rules, one after another.
+//! The rules, one after another: one that is broken is a refusal.
 ghost use Rattle.std.specs.Prelude.{◌≡◌};
 ghost use Rattle.volume_meaning.specs.Volumes.{IsVolume};
 ghost use Rattle.log_audit.specs.Kept.{image_of_kept, count_of};
+ghost use Rattle.log_audit.specs.KeptVolumes.{HasAllCells, IsStated, KeepsBelow, image_in};
 ghost use Rattle.list_audit.specs.Blocks.{AreListBlocks};
-ghost use Rattle.log_audit.specs.Findings.{AreMetBelow};
-ghost use Rattle.log_audit.specs.Logs.{IsLog};
 ghost use Rattle.tree_audit.specs.Nodes.{AreNodes};
-ghost use Rattle.volume_audit.specs.Judging.{Judges, Passes};
+ghost use Rattle.volume_audit.specs.Judging.{Judges, Passes, RefusesFound};
 
-use crate::checks::{
-    check_buckets, check_children, check_documents, check_entries, check_journals, check_paths,
-    check_pointers, check_postings, check_strays, check_targets, check_tilings, check_trails,
-};
 use crate::report::{AuditReport, report_of};
-use cell_types::{Geometry, Refusal};
+use cell_types::{Evidence, Geometry, Refusal};
 use host_ports::Meter;
-use list_audit::{ListBlock, blocks_of};
-use log_audit::{KeptCells, Log, check_log};
+use list_audit::{
+    ListBlock, blocks_of, first_broken_entry, first_broken_posting, first_broken_trail,
+};
+use log_audit::{KeptCells, KeptVolume, check_log};
+use slot_audit::{
+    first_broken_document, first_broken_journal, first_broken_stray, first_broken_target,
+    first_broken_tiling,
+};
 use std::alloc::Global;
-use tree_audit::{LevelNode, nodes_of};
+use tree_audit::{
+    LevelNode, first_broken_bucket, first_broken_child, first_broken_path, first_broken_pointer,
+    nodes_of,
+};
 
 /// The numbers of the volume whose cells are kept, or the least rule that is broken at its least cell.
 pub(crate) fn judge<M: Meter>(
     alloc: Global,
-    kept: &KeptCells,
-    geometry: &Geometry,
+    kept: KeptCells,
+    geometry: Geometry,
     meter: &mut M,
 ) -> Result<AuditReport, Refusal>
-    requires volume { IsVolume geometry.now.cells (image_of_kept kept.now) geometry.now }
-    requires count { count_of kept.now ≡ geometry.now.cells }
-    ensures { Judges geometry.now (image_of_kept kept.now) result }
+    requires volume { IsVolume geometry.cells (image_of_kept kept) geometry }
+    requires count { count_of kept ≡ geometry.cells }
+    ensures { Judges geometry (image_of_kept kept) result }
 {
-    let log = check_log(alloc, kept, geometry)?;
-    check_slots(alloc, kept, geometry, &log)?;
-    let blocks = blocks_of(alloc, kept, geometry)?;
-    let nodes = nodes_of(alloc, kept, geometry)?;
-    check_index(alloc, kept, geometry, &log, &blocks, &nodes, meter)?;
-    check_reach(alloc, kept, geometry, &log, meter)?;
-    Ok(report_of(kept, geometry, &log))
+    let log = check_log(alloc, &kept, &geometry)?;
+    let volume = KeptVolume {
+        kept,
+        geometry,
+        log,
+    };
+    check_slots(alloc, &volume)?;
+    let blocks = blocks_of(alloc, &volume.kept, &volume.geometry)?;
+    let nodes = nodes_of(alloc, &volume.kept, &volume.geometry)?;
+    check_index(alloc, &volume, &blocks, &nodes, meter)?;
+    check_reach(alloc, &volume, meter)?;
+    Ok(report_of(&volume))
 }
 
 /// Rules 4 to 7: what the slots hold, and what stands astray.
-fn check_slots(
-    alloc: Global,
-    kept: &KeptCells,
-    geometry: &Geometry,
-    log: &Log,
-) -> Result<(), Refusal>
-    requires log { IsLog geometry.now (image_of_kept kept.now) log.now }
-    requires count { count_of kept.now ≡ geometry.now.cells }
-    requires met { AreMetBelow geometry.now (image_of_kept kept.now) 4 }
-    ensures { Passes geometry.now (image_of_kept kept.now) 8 result }
+fn check_slots(alloc: Global, volume: &KeptVolume) -> Result<(), Refusal>
+    requires count { HasAllCells volume.now }
+    requires met { KeepsBelow volume.now 4 }
+    ensures { Passes volume.now.geometry (image_in volume.now) 8 result }
 {
-    check_documents(kept, geometry, log)?;
-    check_journals(kept, geometry, log)?;
-    check_targets(kept, geometry, log)?;
-    check_strays(alloc, kept, geometry, log)
+    check_documents(volume)?;
+    check_journals(volume)?;
+    check_targets(volume)?;
+    check_strays(alloc, volume)
 }
 
 /// Rules 8 to 12: what stands in the lists and in the tree.
 fn check_index<M: Meter>(
     alloc: Global,
-    kept: &KeptCells,
-    geometry: &Geometry,
-    log: &Log,
+    volume: &KeptVolume,
     blocks: &[ListBlock],
     nodes: &[LevelNode],
     meter: &mut M,
 ) -> Result<(), Refusal>
-    requires volume { IsVolume geometry.now.cells (image_of_kept kept.now) geometry.now }
-    requires log { IsLog geometry.now (image_of_kept kept.now) log.now }
-    requires count { count_of kept.now ≡ geometry.now.cells }
-    requires blocks { AreListBlocks geometry.now (image_of_kept kept.now) blocks.now }
-    requires nodes { AreNodes geometry.now (image_of_kept kept.now) nodes.now }
-    requires met { AreMetBelow geometry.now (image_of_kept kept.now) 8 }
-    ensures { Passes geometry.now (image_of_kept kept.now) 13 result }
+    requires stated { IsStated volume.now }
+    requires count { HasAllCells volume.now }
+    requires blocks { AreListBlocks volume.now.geometry (image_in volume.now) blocks.now }
+    requires nodes { AreNodes volume.now.geometry (image_in volume.now) nodes.now }
+    requires met { KeepsBelow volume.now 8 }
+    ensures { Passes volume.now.geometry (image_in volume.now) 13 result }
 {
-    check_entries(kept, geometry, blocks)?;
-    check_postings(alloc, kept, geometry, log, blocks, meter)?;
-    check_pointers(alloc, kept, geometry, log, blocks, nodes)?;
-    check_buckets(kept, geometry, log, nodes)?;
-    check_children(alloc, kept, geometry, log, blocks, nodes)
+    check_entries(volume, blocks)?;
+    check_postings(alloc, volume, blocks, meter)?;
+    check_pointers(alloc, volume, blocks, nodes)?;
+    check_buckets(volume, nodes)?;
+    check_children(alloc, volume, blocks, nodes)
 }
 
 /// Rules 13 to 15: that the index leads to each document, and takes no cells besides.
-fn check_reach<M: Meter>(
+fn check_reach<M: Meter>(alloc: Global, volume: &KeptVolume, meter: &mut M) -> Result<(), Refusal>
+    requires stated { IsStated volume.now }
+    requires count { HasAllCells volume.now }
+    requires met { KeepsBelow volume.now 13 }
+    ensures { Passes volume.now.geometry (image_in volume.now) 16 result }
+{
+    check_trails(alloc, volume, meter)?;
+    check_paths(volume)?;
+    check_tilings(alloc, volume)
+}
+
+/// Rule 4: the documents are whole.
+fn check_documents(volume: &KeptVolume) -> Result<(), Refusal>
+    requires count { HasAllCells volume.now }
+    requires met { KeepsBelow volume.now 4 }
+    ensures { Passes volume.now.geometry (image_in volume.now) 5 result }
+{
+    refuse(first_broken_document(volume))
+}
+
+/// Rule 5: the journals are in order.
+fn check_journals(volume: &KeptVolume) -> Result<(), Refusal>
+    requires met { KeepsBelow volume.now 5 }
+    ensures { Passes volume.now.geometry (image_in volume.now) 6 result }
+{
+    refuse(first_broken_journal(volume))
+}
+
+/// Rule 6: what journals copy stands at its target.
+fn check_targets(volume: &KeptVolume) -> Result<(), Refusal>
+    requires met { KeepsBelow volume.now 6 }
+    ensures { Passes volume.now.geometry (image_in volume.now) 7 result }
+{
+    refuse(first_broken_target(volume))
+}
+
+/// Rule 7: nothing stands where nothing is expected.
+fn check_strays(alloc: Global, volume: &KeptVolume) -> Result<(), Refusal>
+    requires count { HasAllCells volume.now }
+    requires met { KeepsBelow volume.now 7 }
+    ensures { Passes volume.now.geometry (image_in volume.now) 8 result }
+{
+    refuse(first_broken_stray(alloc, volume)?)
+}
+
+/// Rule 8: what stands in blocks is in order.
+fn check_entries(volume: &KeptVolume, blocks: &[ListBlock]) -> Result<(), Refusal>
+    requires blocks { AreListBlocks volume.now.geometry (image_in volume.now) blocks.now }
+    requires met { KeepsBelow volume.now 8 }
+    ensures { Passes volume.now.geometry (image_in volume.now) 9 result }
+{
+    refuse(first_broken_entry(&volume.kept, &volume.geometry, blocks))
+}
+
+/// Rule 9: the postings in blocks are those of documents.
+fn check_postings<M: Meter>(
     alloc: Global,
-    kept: &KeptCells,
-    geometry: &Geometry,
-    log: &Log,
+    volume: &KeptVolume,
+    blocks: &[ListBlock],
     meter: &mut M,
 ) -> Result<(), Refusal>
-    requires volume { IsVolume geometry.now.cells (image_of_kept kept.now) geometry.now }
-    requires log { IsLog geometry.now (image_of_kept kept.now) log.now }
-    requires count { count_of kept.now ≡ geometry.now.cells }
-    requires met { AreMetBelow geometry.now (image_of_kept kept.now) 13 }
-    ensures { Passes geometry.now (image_of_kept kept.now) 16 result }
+    requires stated { IsStated volume.now }
+    requires blocks { AreListBlocks volume.now.geometry (image_in volume.now) blocks.now }
+    requires met { KeepsBelow volume.now 9 }
+    ensures { Passes volume.now.geometry (image_in volume.now) 10 result }
 {
-    check_trails(alloc, kept, geometry, log, meter)?;
-    check_paths(kept, geometry, log)?;
-    check_tilings(alloc, kept, geometry, log)
+    refuse(first_broken_posting(alloc, volume, blocks, meter)?)
+}
+
+/// Rule 10: pointers lead where they should.
+fn check_pointers(
+    alloc: Global,
+    volume: &KeptVolume,
+    blocks: &[ListBlock],
+    nodes: &[LevelNode],
+) -> Result<(), Refusal>
+    requires blocks { AreListBlocks volume.now.geometry (image_in volume.now) blocks.now }
+    requires nodes { AreNodes volume.now.geometry (image_in volume.now) nodes.now }
+    requires met { KeepsBelow volume.now 10 }
+    ensures { Passes volume.now.geometry (image_in volume.now) 11 result }
+{
+    refuse(first_broken_pointer(alloc, volume, blocks, nodes)?)
+}
+
+/// Rule 11: buckets name the documents of their paths.
+fn check_buckets(volume: &KeptVolume, nodes: &[LevelNode]) -> Result<(), Refusal>
+    requires stated { IsStated volume.now }
+    requires count { HasAllCells volume.now }
+    requires nodes { AreNodes volume.now.geometry (image_in volume.now) nodes.now }
+    requires met { KeepsBelow volume.now 11 }
+    ensures { Passes volume.now.geometry (image_in volume.now) 12 result }
+{
+    refuse(first_broken_bucket(volume, nodes))
+}
+
+/// Rule 12: child cells lead where they should.
+fn check_children(
+    alloc: Global,
+    volume: &KeptVolume,
+    blocks: &[ListBlock],
+    nodes: &[LevelNode],
+) -> Result<(), Refusal>
+    requires blocks { AreListBlocks volume.now.geometry (image_in volume.now) blocks.now }
+    requires nodes { AreNodes volume.now.geometry (image_in volume.now) nodes.now }
+    requires met { KeepsBelow volume.now 12 }
+    ensures { Passes volume.now.geometry (image_in volume.now) 13 result }
+{
+    refuse(first_broken_child(alloc, volume, nodes, blocks)?)
+}
+
+/// Rule 13: each posting of a document has a trail.
+fn check_trails<M: Meter>(alloc: Global, volume: &KeptVolume, meter: &mut M) -> Result<(), Refusal>
+    requires stated { IsStated volume.now }
+    requires met { KeepsBelow volume.now 13 }
+    ensures { Passes volume.now.geometry (image_in volume.now) 14 result }
+{
+    refuse(first_broken_trail(alloc, volume, meter)?)
+}
+
+/// Rule 14: each document has its path, and no two have one identifier.
+fn check_paths(volume: &KeptVolume) -> Result<(), Refusal>
+    requires stated { IsStated volume.now }
+    requires count { HasAllCells volume.now }
+    requires met { KeepsBelow volume.now 14 }
+    ensures { Passes volume.now.geometry (image_in volume.now) 15 result }
+{
+    refuse(first_broken_path(volume))
+}
+
+/// Rule 15: the blocks of each slot are those that its journal leads to.
+fn check_tilings(alloc: Global, volume: &KeptVolume) -> Result<(), Refusal>
+    requires met { KeepsBelow volume.now 15 }
+    ensures { Passes volume.now.geometry (image_in volume.now) 16 result }
+{
+    refuse(first_broken_tiling(alloc, volume)?)
+}
+
+/// Ends the audit with what was found, if something was.
+fn refuse(found: Option<Evidence>) -> Result<(), Refusal>
+    ensures { RefusesFound found result }
+{
+    match found {
+        Some(evidence) => Err(Refusal::Tampered(evidence)),
+        None => Ok(()),
+    }
 }

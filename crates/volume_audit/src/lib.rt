@@ -33,7 +33,6 @@
 #![tactic(auto)]
 
 mod auditing;
-mod checks;
 mod judging;
 mod report;
 

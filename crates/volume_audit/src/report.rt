@@ -1,13 +1,11 @@
 //! How many slots and cells there are.
-ghost use Rattle.std.specs.Prelude.{◌≡◌, ◌<◌, ◌↔◌, IsTrue};
+ghost use Rattle.std.specs.Prelude.{◌<◌, ◌↔◌, IsTrue};
 ghost use Rattle.volume_meaning.specs.Slots.{IsDoneSlot, IsAbandonedSlot};
-ghost use Rattle.log_audit.specs.Kept.{image_of_kept, count_of};
-ghost use Rattle.log_audit.specs.Logs.{IsLog};
+ghost use Rattle.log_audit.specs.KeptVolumes.{HasAllCells, image_in};
 ghost use Rattle.volume_audit.specs.Counts.{Counts};
 ghost use Rattle.volume_audit.specs.Reports.{IsReport};
 
-use cell_types::Geometry;
-use log_audit::{EndedSlot, KeptCells, Log};
+use log_audit::{EndedSlot, KeptVolume};
 
 /// What an audit found of a sound volume.
 #[derive(Clone, Copy, Debug, PartialEq, Eq)]
@@ -21,26 +19,24 @@ pub struct AuditReport {
 }
 
 /// The numbers of a volume whose cells are kept.
-pub(crate) fn report_of(kept: &KeptCells, geometry: &Geometry, log: &Log) -> AuditReport
-    requires log { IsLog geometry.now (image_of_kept kept.now) log.now }
-    requires count { count_of kept.now ≡ geometry.now.cells }
-    ensures { IsReport geometry.now (image_of_kept kept.now) result }
+pub(crate) fn report_of(volume: &KeptVolume) -> AuditReport
+    requires count { HasAllCells volume.now }
+    ensures { IsReport volume.now.geometry (image_in volume.now) result }
 {
     AuditReport {
-        done: count_done(kept, geometry, log),
-        abandoned: count_abandoned(kept, geometry, log),
-        written: kept.written(),
+        done: count_done(volume),
+        abandoned: count_abandoned(volume),
+        written: volume.kept.written(),
     }
 }
 
 /// How many slots are done.
-fn count_done(_kept: &KeptCells, geometry: &Geometry, log: &Log) -> u32
-    requires { IsLog geometry.now (image_of_kept _kept.now) log.now }
-    ensures { Counts (IsDoneSlot geometry.now (image_of_kept _kept.now)) geometry.now.slots result }
+fn count_done(volume: &KeptVolume) -> u32
+    ensures { Counts (IsDoneSlot volume.now.geometry (image_in volume.now)) volume.now.geometry.slots result }
 {
     let mut done = 0;
-    for slot in 0..geometry.slots() {
-        if is_done(_kept, geometry, log, slot) {
+    for slot in 0..volume.geometry.slots() {
+        if is_done(volume, slot) {
             done += 1;
         }
     }
@@ -48,13 +44,13 @@ fn count_done(_kept: &KeptCells, geometry: &Geometry, log: &Log) -> u32
 }
 
 /// How many slots are abandoned.
-fn count_abandoned(_kept: &KeptCells, geometry: &Geometry, log: &Log) -> u32
-    requires { IsLog geometry.now (image_of_kept _kept.now) log.now }
-    ensures { Counts (IsAbandonedSlot geometry.now (image_of_kept _kept.now) (image_of_kept _kept.now)) geometry.now.slots result }
+fn count_abandoned(volume: &KeptVolume) -> u32
+    ensures { Counts (IsAbandonedSlot volume.now.geometry (image_in volume.now) (image_in volume.now))
+        volume.now.geometry.slots result }
 {
     let mut abandoned = 0;
-    for slot in 0..geometry.slots() {
-        if is_abandoned(_kept, geometry, log, slot) {
+    for slot in 0..volume.geometry.slots() {
+        if is_abandoned(volume, slot) {
             abandoned += 1;
         }
     }
@@ -62,12 +58,11 @@ fn count_abandoned(_kept: &KeptCells, geometry: &Geometry, log: &Log) -> u32
 }
 
 /// Whether a slot is done.
-fn is_done(_kept: &KeptCells, _geometry: &Geometry, log: &Log, slot: u32) -> bool
-    requires inside { slot < _geometry.now.slots }
-    requires log { IsLog _geometry.now (image_of_kept _kept.now) log.now }
-    ensures { IsTrue result ↔ IsDoneSlot _geometry.now (image_of_kept _kept.now) slot }
+fn is_done(volume: &KeptVolume, slot: u32) -> bool
+    requires inside { slot < volume.now.geometry.slots }
+    ensures { IsTrue result ↔ IsDoneSlot volume.now.geometry (image_in volume.now) slot }
 {
-    let Some(ended) = log.at(slot) else {
+    let Some(ended) = volume.log.at(slot) else {
         return false;
     };
     match ended {
@@ -77,12 +72,12 @@ fn is_done(_kept: &KeptCells, _geometry: &Geometry, log: &Log, slot: u32) -> boo
 }
 
 /// Whether a slot is abandoned.
-fn is_abandoned(_kept: &KeptCells, _geometry: &Geometry, log: &Log, slot: u32) -> bool
-    requires inside { slot < _geometry.now.slots }
-    requires log { IsLog _geometry.now (image_of_kept _kept.now) log.now }
-    ensures { IsTrue result ↔ IsAbandonedSlot _geometry.now (image_of_kept _kept.now) (image_of_kept _kept.now) slot }
+fn is_abandoned(volume: &KeptVolume, slot: u32) -> bool
+    requires inside { slot < volume.now.geometry.slots }
+    ensures { IsTrue result ↔ IsAbandonedSlot volume.now.geometry (image_in volume.now)
+        (image_in volume.now) slot }
 {
-    let Some(ended) = log.at(slot) else {
+    let Some(ended) = volume.log.at(slot) else {
         return false;
     };
     match ended {

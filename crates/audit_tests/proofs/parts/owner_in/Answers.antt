@@ -3,5 +3,5 @@ use Rattle.std.proofs.Common.{arith}
 use Rattle.tamper_rules.specs.Rules.{ReserveCells}
 use Rattle.audit_tests.proofs.parts.owner_in.Goals as goal
 
-pub owner_of-requires-clause-met : goal.owner_of-requires-clause-met
-owner_of-requires-clause-met c = c.in-Ok.ensures.1 ReserveCells (omega arith)
+pub owner_of-requires : goal.owner_of-requires
+owner_of-requires c = c.in-Ok.ensures.1 ReserveCells (omega arith)

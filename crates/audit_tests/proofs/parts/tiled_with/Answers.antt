@@ -3,5 +3,5 @@ use Rattle.std.proofs.Common.{arith}
 use Rattle.tamper_rules.specs.Rules.{Journals}
 use Rattle.audit_tests.proofs.parts.tiled_with.Goals as goal
 
-pub first_broken_tiling-requires-clause-journals : goal.first_broken_tiling-requires-clause-journals
-first_broken_tiling-requires-clause-journals c = c.in_default-first_broken.ensures Journals (omega arith)
+pub first_broken_tiling-requires : goal.first_broken_tiling-requires
+first_broken_tiling-requires c = record { journals = c.in_default-first_broken.ensures Journals (omega arith) }

@@ -1,7 +1,7 @@
 -- One block more, and all of them.
 use Rattle.std.proofs.Common.{arith}
 use Rattle.std.proofs.lemmas.Option.{slice_get-get_or}
-use Rattle.log_audit.specs.Kept.{image_of_kept}
+use Rattle.log_audit.specs.KeptVolumes.{image_in}
 use Rattle.tamper_rules.specs.Rules.{Postings}
 use Rattle.list_audit.proofs.EachBlock.{one_block, every_block}
 use Rattle.list_audit.specs.Owing.{BlockOwes}
@@ -14,14 +14,15 @@ first_fake_in-requires-clause-block c = c.requires.blocks.each c.loop-block.bloc
 
 pub loop-block-preserved : goal.loop-block-preserved
 loop-block-preserved c =
-    let g = c.args.geometry.now in let image = image_of_kept c.args.kept.now in
+    let g = c.args.volume.now.geometry in let image = image_in c.args.volume.now in
     one_block g image Postings c.args.blocks.now (BlockOwes g image) c.loop-block.block-index _ _ _ _ c.loop-block.invariant
     (slice_get-get_or c.args.blocks.now c.loop-block.block-index (record { list = 0; block = 0 }) (omega arith))
     c.first_fake_in.ensures c.lower_of-least.ensures
 
 pub returns : goal.returns
-returns c =
-    let g = c.args.geometry.now in let image = image_of_kept c.args.kept.now in
-    every_block g image Postings c.args.blocks.now (BlockOwes g image) c.loop-block.block-index _ c.requires.blocks c.loop-block.invariant
-    (omega (arith, c.loop-block-test.false)) (rule_owes g image c.args._log.now c.requires.volume c.requires.log)
-    (block_owes g image c.args._log.now c.requires.volume c.requires.log)
+returns c = let volume = c.args.volume.now in
+    let g = volume.geometry in let image = image_in volume in
+    every_block g image Postings c.args.blocks.now (BlockOwes g image) c.loop-block.block-index _
+    c.requires.blocks c.loop-block.invariant
+    (omega (arith, c.loop-block-test.false)) (rule_owes g image volume.log c.requires.stated volume.is_log)
+    (block_owes g image volume.log c.requires.stated volume.is_log)

@@ -1,6 +1,6 @@
 -- A slot that is not stored, one without postings, one with its postings, and all of them.
 use Rattle.std.proofs.Common.{ℕ, sym, subst, arith}
-use Rattle.log_audit.specs.Kept.{image_of_kept}
+use Rattle.log_audit.specs.KeptVolumes.{image_in}
 use Rattle.document_store.specs.Standing.{HoldsDocument}
 use Rattle.list_audit.specs.Bodies.{AreRowsOf, HasNoRows}
 use Rattle.list_audit.specs.Owing.{AreOwed}
@@ -11,19 +11,19 @@ use Rattle.list_audit.proofs.table.table_of.Goals as goal
 
 pub loop-slot-preserved-in_default : goal.loop-slot-preserved-in_default
 loop-slot-preserved-in_default _ c =
-    let g = c.args.geometry.now in let image = image_of_kept c.args.kept.now in let n = c.loop-slot.slot in
+    let g = c.args.volume.now.geometry in let image = image_in c.args.volume.now in let n = c.loop-slot.slot in
     nothing_more g image n c.loop-slot.table.rows.items c.loop-slot.invariant (not_stored_owes g image n c.in_default.ensures.none)
 
 pub loop-slot-preserved-in_default-found : goal.loop-slot-preserved-in_default-found
 loop-slot-preserved-in_default-found _ c =
-    let g = c.args.geometry.now in let image = image_of_kept c.args.kept.now in let n = c.loop-slot.slot in
+    let g = c.args.volume.now.geometry in let image = image_in c.args.volume.now in let n = c.loop-slot.slot in
     nothing_more g image n c.loop-slot.table.rows.items c.loop-slot.invariant (no_rows_owes g image n
     (subst (HasNoRows g image) c.in-Some.ensures.same
     (none_of (HasNoRows g image c.in-Some.stored.slot) c.in_ok-found.found c.in_ok-found.ensures.none (c.in_default-found).is)))
 
 pub loop-slot-preserved : goal.loop-slot-preserved
 loop-slot-preserved _ c =
-    let g = c.args.geometry.now in let image = image_of_kept c.args.kept.now in let n = c.loop-slot.slot in
+    let g = c.args.volume.now.geometry in let image = image_in c.args.volume.now in let n = c.loop-slot.slot in
     let d = held_by c.in-Some.ensures.some c.requires.documents in
     let rows = some_of (λ rows. AreRowsOf g image c.in-Some.stored.slot rows.items) c.in_ok-found.found c.in-Some-found.rows
     c.in_ok-found.ensures.some c.in-Some-found.is in
@@ -34,11 +34,11 @@ loop-slot-preserved _ c =
     c.loop-slot.invariant c.in_ok-add_all.ensures
 
 pub loop-slot-init : goal.loop-slot-init
-loop-slot-init _ c = none_yet c.args.geometry.now (image_of_kept c.args.kept.now) _ c.in_ok-table.ensures
+loop-slot-init _ c = none_yet c.args.volume.now.geometry (image_in c.args.volume.now) _ c.in_ok-table.ensures
 
 pub returns-clause-owed : goal.returns-clause-owed
 returns-clause-owed _ c =
-    let g = c.args.geometry.now in let image = image_of_kept c.args.kept.now in
+    let g = c.args.volume.now.geometry in let image = image_in c.args.volume.now in
     owed_in_order g image g.slots c.loop-slot.table.rows.items _
     (subst (λ (k : ℕ). AreOwed g image k c.loop-slot.table.rows.items)
     (omega (arith, c.loop-slot-test.false, c.loop-slot.auto.slot-end, c.slots-slot-end.ensures.slots)) c.loop-slot.invariant)

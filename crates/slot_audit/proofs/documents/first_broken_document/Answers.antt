@@ -17,7 +17,7 @@ loop-slot-preserved c = fine_more c.loop-slot.invariant (λ _.
 
 pub returns-in-loop-slot : goal.returns-in-loop-slot
 returns-in-loop-slot c =
-    let g = c.args.geometry.now in
+    let g = c.args.volume.now.geometry in
     let inside : c.loop-slot.slot < g.slots = omega (arith, c.loop-slot-test.true, c.slots-slot-end.ensures.slots) in
     first_rising g Documents _ (λ cell h. h) (λ h. h c.loop-slot.slot inside c.outcome_at-cell.ensures.at)
     (λ a b h. omega (arith, h)) c.loop-slot.invariant
@@ -27,6 +27,6 @@ returns-in-loop-slot c =
     (sym c.at.ensures ∙ (c.in-Some-at).is) c.outcome_at-cell.ensures.at
 
 pub returns : goal.returns
-returns c = met_all c.args.geometry.now Documents
+returns c = met_all c.args.volume.now.geometry Documents
     (λ cell h. λ k less. h k (omega (arith, less, c.loop-slot-test.false, c.slots-slot-end.ensures.slots)))
     c.loop-slot.invariant

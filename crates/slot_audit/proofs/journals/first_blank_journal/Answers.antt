@@ -1,7 +1,7 @@
 -- A slot without a document; one whose journal is written; one whose is not; and all.
 use Rattle.std.proofs.Common.{refl, sym, ◌∙◌, subst, ap, arith}
 use Rattle.volume_meaning.specs.Volumes.{IsWritten}
-use Rattle.log_audit.specs.Kept.{image_of_kept}
+use Rattle.log_audit.specs.KeptVolumes.{image_in}
 use Rattle.slot_audit.specs.Journals.{journal_cell}
 use Rattle.cell_types.specs.Layout.{outcome_at}
 use Rattle.log_audit.proofs.Deciding.{decided_no, decided_yes}
@@ -17,11 +17,11 @@ loop-slot-preserved c = slot_more c.loop-slot.invariant c.in-Some.ensures.some c
     (decided_yes _ c.is_journal_written.ensures c.if-is_journal_written.true)
 
 pub returns-in-loop-slot : goal.returns-in-loop-slot
-returns-in-loop-slot c =
-    let image = image_of_kept c.args.kept.now in
-    blank_is_least c.requires _ c.in-Some.ensures.some refl
+returns-in-loop-slot c = let volume = c.args.volume.now in
+    let image = image_in volume in
+    blank_is_least volume.is_log _ c.in-Some.ensures.some refl
     (c.outcome_at-cell.ensures.at ∙ ap outcome_at (sym c.in-Some.ensures.same)) (sym c.at.ensures ∙ (c.in-Some-at).is)
-    (subst (AreGoodTo c.args.geometry.now image (λ t q. IsWritten image (journal_cell t q))) (sym c.in-Some.ensures.same)
+    (subst (AreGoodTo volume.geometry image (λ t q. IsWritten image (journal_cell t q))) (sym c.in-Some.ensures.same)
     c.loop-slot.invariant)
     (decided_no _ c.is_journal_written.ensures c.if-is_journal_written.false)
 

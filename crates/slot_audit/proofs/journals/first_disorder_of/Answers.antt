@@ -2,7 +2,7 @@
 use Rattle.std.proofs.Common.{◌+◌, ℕ, sym, ◌∙◌, ap, arith, refl}
 use Rattle.std.proofs.lemmas.Option.{none-some}
 use borrow.Author.Count.{below_more}
-use Rattle.log_audit.specs.Kept.{image_of_kept}
+use Rattle.log_audit.specs.KeptVolumes.{image_in}
 use Rattle.tamper_rules.specs.Rules.{ReserveCells}
 use Rattle.log_audit.proofs.Deciding.{decided_no, decided_yes}
 use Rattle.slot_audit.specs.Journals.{IsOrdered}
@@ -13,14 +13,15 @@ is_in_order-requires-clause-met c = c.requires.met ReserveCells (omega arith)
 
 pub loop-place-preserved : goal.loop-place-preserved
 loop-place-preserved c =
-    below_more (IsOrdered c.args.geometry.now (image_of_kept c.args.kept.now) c.args.stored.now) c.loop-place.place
+    below_more (IsOrdered c.args.volume.now.geometry (image_in c.args.volume.now) c.args.stored.now) c.loop-place.place
     c.loop-place.invariant (decided_yes _ c.is_in_order.ensures c.if-is_in_order.true)
 
 pub unreachable-requires : goal.unreachable-requires
 unreachable-requires c =
     let written = c.requires.written c.loop-place.place c.loop-place-test.true in
     none-some written.found (sym c.in_default.is ∙ c.at.ensures
-    ∙ ap (λ (from : ℕ). image_of_kept c.args.kept.now (from + c.loop-place.place)) c.journal_at-from.ensures.at ∙ written.stands)
+    ∙ ap (λ (from : ℕ). image_in c.args.volume.now (from + c.loop-place.place)) c.journal_at-from.ensures.at ∙
+    written.stands)
 
 pub returns-in-loop-place : goal.returns-in-loop-place
 returns-in-loop-place c = record {

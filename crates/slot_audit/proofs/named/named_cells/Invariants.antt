@@ -1,7 +1,7 @@
 -- What the slots so far name is there.
-use Rattle.log_audit.specs.Kept.{image_of_kept}
+use Rattle.log_audit.specs.KeptVolumes.{image_in}
 use Rattle.slot_audit.proofs.Naming.{NamedBelow}
 use Rattle.slot_audit.proofs.named.named_cells.Given as goal
 
 abbrev pub invariant-loop-slot : goal.invariant-loop-slot
-invariant-loop-slot l = NamedBelow l.geometry (image_of_kept l.kept) l.slot l.cells.items
+invariant-loop-slot l = NamedBelow l.volume.geometry (image_in l.volume) l.slot l.cells.items

@@ -2,7 +2,7 @@
 use Rattle.std.proofs.Common.{◌<◌, ◌∙◌, inl, inr, refl, sym, arith}
 use Rattle.tamper_rules.specs.Rules.{StrayCells, IsTrueStamp}
 use Rattle.cell_types.specs.Layout.{spare_at}
-use Rattle.log_audit.specs.Kept.{image_of_kept}
+use Rattle.log_audit.specs.KeptVolumes.{image_in}
 use Rattle.log_audit.proofs.Deciding.{decided_no, decided_yes}
 use Rattle.log_audit.proofs.Families.{fine_more, not_written}
 use Rattle.log_audit.proofs.Parts.{first_of_part, part_met}
@@ -18,7 +18,7 @@ loop-slot-preserved-in_default c = (
 
 pub returns-then-not-is_true_stamp : goal.returns-then-not-is_true_stamp
 returns-then-not-is_true_stamp c =
-    let g = c.args.geometry.now in let image = image_of_kept c.args.kept.now in
+    let g = c.args.volume.now.geometry in let image = image_in c.args.volume.now in
     let inside : c.loop-slot.slot < g.slots = omega (arith, c.loop-slot-test.true, c.slots-slot-end.ensures.slots) in
     first_of_part g image StrayCells (IsInTime g image) spare_at (IsTrueStamp g image) c.loop-slot.slot g.slots _
     (λ cell each. λ n less same. each n less same) (λ asked. asked c.loop-slot.slot inside c.spare_at-cell.ensures.at)
@@ -35,7 +35,7 @@ loop-slot-preserved c = (
 
 pub returns : goal.returns
 returns c =
-    let g = c.args.geometry.now in let image = image_of_kept c.args.kept.now in
+    let g = c.args.volume.now.geometry in let image = image_in c.args.volume.now in
     part_met g image StrayCells (IsInTime g image) spare_at (IsTrueStamp g image) c.loop-slot.slot
     (λ cell each. λ n less same. each n (omega (arith, less, c.loop-slot-test.false, c.slots-slot-end.ensures.slots)) same)
     c.loop-slot.invariant.0

@@ -1,6 +1,6 @@
 -- A slot that is not done; one that is tiled; one that is not; and all of them.
 use Rattle.std.proofs.Common.{◌<◌, sym, ◌∙◌, arith}
-use Rattle.log_audit.specs.Kept.{image_of_kept}
+use Rattle.log_audit.specs.KeptVolumes.{image_in}
 use Rattle.tamper_rules.specs.Rules.{Tilings}
 use Rattle.log_audit.proofs.Deciding.{decided_no, decided_yes}
 use Rattle.log_audit.proofs.Families.{fine_more, met_all, first_rising}
@@ -12,7 +12,8 @@ pub loop-slot-preserved-in_default : goal.loop-slot-preserved-in_default
 loop-slot-preserved-in_default c = fine_more c.loop-slot.invariant (λ _. none_tiles c.in_default.ensures.none)
 
 pub is_tiled-requires-clause-targets : goal.is_tiled-requires-clause-targets
-is_tiled-requires-clause-targets c = have_targets c.args.geometry.now (image_of_kept c.args.kept.now) c.in-Some.stored
+is_tiled-requires-clause-targets c = let volume = c.args.volume.now in
+    have_targets volume.geometry (image_in volume) c.in-Some.stored
     c.requires.journals c.in-Some.ensures.some
 
 pub loop-slot-preserved : goal.loop-slot-preserved
@@ -22,7 +23,7 @@ loop-slot-preserved c = fine_more c.loop-slot.invariant (λ _.
 
 pub returns-in-loop-slot : goal.returns-in-loop-slot
 returns-in-loop-slot c =
-    let g = c.args.geometry.now in let image = image_of_kept c.args.kept.now in
+    let g = c.args.volume.now.geometry in let image = image_in c.args.volume.now in
     let inside : c.loop-slot.slot < g.slots = omega (arith, c.loop-slot-test.true, c.slots-slot-end.ensures.slots) in
     first_rising g Tilings _ (λ cell each. asks g image cell each)
     (λ met a b d e done. met c.loop-slot.slot a b d e c.outcome_at-cell.ensures.at done)
@@ -34,6 +35,6 @@ returns-in-loop-slot c =
 
 pub returns : goal.returns
 returns c =
-    let g = c.args.geometry.now in let image = image_of_kept c.args.kept.now in
+    let g = c.args.volume.now.geometry in let image = image_in c.args.volume.now in
     met_all g Tilings (λ cell each. asks g image cell
     (λ k less. each k (omega (arith, less, c.loop-slot-test.false, c.slots-slot-end.ensures.slots)))) c.loop-slot.invariant

@@ -1,6 +1,6 @@
 -- Blank cells, true buckets, one that is none, and all of them.
 use Rattle.std.proofs.Common.{◌+◌, ℕ, refl, sym, ◌∙◌, arith}
-use Rattle.log_audit.specs.Kept.{image_of_kept}
+use Rattle.log_audit.specs.KeptVolumes.{image_in}
 use Rattle.tamper_rules.specs.Rules.{Buckets, IsTrueBucket}
 use Rattle.log_audit.proofs.Deciding.{decided_no, decided_yes}
 use Rattle.log_audit.proofs.Families.{fine_more, not_written}
@@ -22,19 +22,19 @@ is_true_bucket-requires-clause-inside c =
 
 pub loop-x-preserved-in_default : goal.loop-x-preserved-in_default
 loop-x-preserved-in_default c =
-    let g = c.args.geometry.now in let image = image_of_kept c.args.kept.now in let node = c.args.place.now.node in
+    let g = c.args.volume.now.geometry in let image = image_in c.args.volume.now in let node = c.args.place.now.node in
     fine_more {image = image} {at = λ (x : ℕ). node + x} {Fine = IsTrueBucket g image node} {n = c.loop-x.x} c.loop-x.invariant
     (λ written. absurd (not_written (sym c.at.ensures ∙ c.in_default.is) refl written))
 
 pub loop-x-preserved : goal.loop-x-preserved
 loop-x-preserved c =
-    let g = c.args.geometry.now in let image = image_of_kept c.args.kept.now in let node = c.args.place.now.node in
+    let g = c.args.volume.now.geometry in let image = image_in c.args.volume.now in let node = c.args.place.now.node in
     fine_more {image = image} {at = λ (x : ℕ). node + x} {Fine = IsTrueBucket g image node} {n = c.loop-x.x} c.loop-x.invariant
     (λ _. decided_yes _ c.is_true_bucket.ensures c.if-is_true_bucket.true)
 
 pub returns-in-loop-x : goal.returns-in-loop-x
 returns-in-loop-x c =
-    let g = c.args.geometry.now in let image = image_of_kept c.args.kept.now in let node = c.args.place.now.node in
+    let g = c.args.volume.now.geometry in let image = image_in c.args.volume.now in let node = c.args.place.now.node in
     let x = c.loop-x.x in
     first_of_part g image Buckets (AsksBucket g image node) (λ (k : ℕ). node + k) (IsTrueBucket g image node) x 16 _
     (λ cell h. h) (λ asks. asks x c.loop-x-test.true refl) (λ a b h. omega (arith, h)) c.loop-x.invariant
@@ -44,6 +44,6 @@ returns-in-loop-x c =
 
 pub returns : goal.returns
 returns c =
-    let g = c.args.geometry.now in let image = image_of_kept c.args.kept.now in let node = c.args.place.now.node in
+    let g = c.args.volume.now.geometry in let image = image_in c.args.volume.now in let node = c.args.place.now.node in
     part_met g image Buckets (AsksBucket g image node) (λ (k : ℕ). node + k) (IsTrueBucket g image node) 16 (λ cell h. h)
     (λ k less. c.loop-x.invariant k (omega (arith, less, c.loop-x-test.false)))

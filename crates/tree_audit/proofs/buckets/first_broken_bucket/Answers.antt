@@ -2,7 +2,7 @@
 use Rattle.std.proofs.Common.{◌≡◌, ◌+◌, get_or, Some, sym, subst, arith}
 use Rattle.std.specs.Prelude.{slice_get}
 use Rattle.std.proofs.lemmas.Option.{slice_get-get_or}
-use Rattle.log_audit.specs.Kept.{image_of_kept}
+use Rattle.log_audit.specs.KeptVolumes.{image_in}
 use Rattle.tamper_rules.specs.Rules.{Buckets}
 use Rattle.log_audit.specs.Least.{FindsPart}
 use Rattle.log_audit.proofs.Parts.{AskedBelow, as_asked, one_part, finds_all}
@@ -13,7 +13,7 @@ use Rattle.tree_audit.proofs.buckets.first_broken_bucket.Goals as goal
 
 pub loop-place-preserved : goal.loop-place-preserved
 loop-place-preserved c =
-    let g = c.args.geometry.now in let image = image_of_kept c.args.kept.now in let nodes = c.args.nodes.now in
+    let g = c.args.volume.now.geometry in let image = image_in c.args.volume.now in let nodes = c.args.nodes.now in
     let i = c.loop-place.place-index in
     let none : LevelNode = record { level = 0; node = 0 } in
     let n : LevelNode = get_or nodes i none in
@@ -27,7 +27,7 @@ loop-place-preserved c =
 
 pub returns : goal.returns
 returns c =
-    let g = c.args.geometry.now in let image = image_of_kept c.args.kept.now in let nodes = c.args.nodes.now in
+    let g = c.args.volume.now.geometry in let image = image_in c.args.volume.now in let nodes = c.args.nodes.now in
     let i = c.loop-place.place-index in
     finds_all g image Buckets (AskedBelow (AsksAt g image nodes) i) c.loop-place.least c.loop-place.invariant
     (asks_all c.requires.nodes i (omega (arith, c.loop-place-test.false))) (all_ask c.requires.nodes i)

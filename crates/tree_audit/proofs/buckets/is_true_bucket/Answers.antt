@@ -1,7 +1,7 @@
 -- No bucket; one of a slot that does not stand; one with another fingerprint; one on the path, or not.
 use Rattle.std.proofs.Common.{ℕ, subst}
 use Rattle.volume_meaning.specs.Documents.{Stands}
-use Rattle.log_audit.specs.Kept.{image_of_kept}
+use Rattle.log_audit.specs.KeptVolumes.{image_in}
 use Rattle.log_audit.proofs.Deciding.{no, decided_no, decided_yes}
 use Rattle.tree_audit.proofs.Judging.{same_slot, is_true, true_fingerprint, true_path}
 use Rattle.tree_audit.proofs.buckets.is_true_bucket.Goals as goal
@@ -11,21 +11,21 @@ returns-in_default c = no (λ t. c.in_default.ensures t.slot t.fingerprint t.buc
 
 pub returns-in_default-digest_of : goal.returns-in_default-digest_of
 returns-in_default-digest_of c =
-    let g = c.args.geometry.now in let image = image_of_kept c.args.kept.now in
+    let g = c.args.volume.now.geometry in let image = image_in c.args.volume.now in
     let b = c.in-Some.bucket in
     no (λ t. (c.in_default-digest_of).ensures.none t.id t.body
     (subst (λ (n : ℕ). Stands g.cells image n t.id t.body) (same_slot g image c.args.node c.args.x b.slot b.fingerprint c.in-Some.ensures t).0 t.stands))
 
 pub returns-then-not-is_fingerprint : goal.returns-then-not-is_fingerprint
 returns-then-not-is_fingerprint c =
-    let g = c.args.geometry.now in let image = image_of_kept c.args.kept.now in
+    let g = c.args.volume.now.geometry in let image = image_in c.args.volume.now in
     let b = c.in-Some.bucket in
     no (λ t. decided_no _ c.is_fingerprint.ensures c.if-not-is_fingerprint.true
     (true_fingerprint g image c.args.node c.args.x b.slot b.fingerprint c.in-Some.ensures _ (c.in-Some-digest_of).ensures.some t))
 
 pub returns : goal.returns
 returns c =
-    let g = c.args.geometry.now in let image = image_of_kept c.args.kept.now in
+    let g = c.args.volume.now.geometry in let image = image_in c.args.volume.now in
     let b = c.in-Some.bucket in
     let digest = (c.in-Some-digest_of).digest in
     let d = (c.in-Some-digest_of).ensures.some in

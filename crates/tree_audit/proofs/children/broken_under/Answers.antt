@@ -1,6 +1,6 @@
 -- Blank cells, child cells that lead down well, one that does not, and all of them.
 use Rattle.std.proofs.Common.{◌+◌, ℕ, refl, sym, ◌∙◌, arith}
-use Rattle.log_audit.specs.Kept.{image_of_kept}
+use Rattle.log_audit.specs.KeptVolumes.{image_in}
 use Rattle.tamper_rules.specs.Rules.{Children, LeadsDownWell}
 use Rattle.log_audit.proofs.Deciding.{decided_no, decided_yes}
 use Rattle.log_audit.proofs.Families.{fine_more, not_written}
@@ -26,29 +26,37 @@ leads_down_well-requires-clause-inside c =
     omega (arith, inside, c.cells-cells.ensures.exists.cells, c.loop-x-test.true)
 
 pub loop-x-preserved-in_default : goal.loop-x-preserved-in_default
-loop-x-preserved-in_default c =
-    let g = c.args.geometry.now in let image = image_of_kept c.args.kept.now in let v = c.args.place.now.level in let node = c.args.place.now.node in
-    fine_more {image = image} {at = λ (x : ℕ). node + 16 + x} {Fine = LeadsDownWell g image v node} {n = c.loop-x.x} c.loop-x.invariant
+loop-x-preserved-in_default c = let volume = c.args.volume.now in
+    let g = volume.geometry in let image = image_in volume in let v = c.args.place.now.level in let node =
+    c.args.place.now.node in
+    fine_more {image = image} {at = λ (x : ℕ). node + 16 + x} {Fine = LeadsDownWell g image v node}
+    {n = c.loop-x.x} c.loop-x.invariant
     (λ written. absurd (not_written (sym c.at.ensures ∙ c.in_default.is) refl written))
 
 pub loop-x-preserved : goal.loop-x-preserved
-loop-x-preserved c =
-    let g = c.args.geometry.now in let image = image_of_kept c.args.kept.now in let v = c.args.place.now.level in let node = c.args.place.now.node in
-    fine_more {image = image} {at = λ (x : ℕ). node + 16 + x} {Fine = LeadsDownWell g image v node} {n = c.loop-x.x} c.loop-x.invariant
+loop-x-preserved c = let volume = c.args.volume.now in
+    let g = volume.geometry in let image = image_in volume in let v = c.args.place.now.level in let node =
+    c.args.place.now.node in
+    fine_more {image = image} {at = λ (x : ℕ). node + 16 + x} {Fine = LeadsDownWell g image v node}
+    {n = c.loop-x.x} c.loop-x.invariant
     (λ _. decided_yes _ c.leads_down_well.ensures c.if-leads_down_well.true)
 
 pub returns-in-loop-x : goal.returns-in-loop-x
-returns-in-loop-x c =
-    let g = c.args.geometry.now in let image = image_of_kept c.args.kept.now in let v = c.args.place.now.level in let node = c.args.place.now.node in
+returns-in-loop-x c = let volume = c.args.volume.now in
+    let g = volume.geometry in let image = image_in volume in let v = c.args.place.now.level in let node =
+    c.args.place.now.node in
     let x = c.loop-x.x in
-    first_of_part g image Children (AsksChild g image v node) (λ (k : ℕ). node + 16 + k) (LeadsDownWell g image v node) x 16 _
+    first_of_part g image Children (AsksChild g image v node) (λ (k : ℕ). node + 16 + k)
+    (LeadsDownWell g image v node) x 16 _
     (λ cell h. h) (λ asks. asks x c.loop-x-test.true refl) (λ a b h. omega (arith, h)) c.loop-x.invariant
     (decided_no _ c.leads_down_well.ensures c.if-leads_down_well.false) (omega arith)
     (child_place x (node + 16 + x) c.cells-cells.ensures.exists c.requires.node c.loop-x-test.true refl)
     (sym c.at.ensures ∙ c.in-Some.is) refl
 
 pub returns : goal.returns
-returns c =
-    let g = c.args.geometry.now in let image = image_of_kept c.args.kept.now in let v = c.args.place.now.level in let node = c.args.place.now.node in
-    part_met g image Children (AsksChild g image v node) (λ (k : ℕ). node + 16 + k) (LeadsDownWell g image v node) 16 (λ cell h. h)
+returns c = let volume = c.args.volume.now in
+    let g = volume.geometry in let image = image_in volume in let v = c.args.place.now.level in let node =
+    c.args.place.now.node in
+    part_met g image Children (AsksChild g image v node) (λ (k : ℕ). node + 16 + k)
+    (LeadsDownWell g image v node) 16 (λ cell h. h)
     (λ k less. c.loop-x.invariant k (omega (arith, less, c.loop-x-test.false)))

@@ -1,5 +1,5 @@
 -- The least finding of the nodes before this turn's.
-use Rattle.log_audit.specs.Kept.{image_of_kept}
+use Rattle.log_audit.specs.KeptVolumes.{image_in}
 use Rattle.tamper_rules.specs.Rules.{Children}
 use Rattle.log_audit.specs.Least.{FindsPart}
 use Rattle.log_audit.proofs.Parts.{AskedBelow}
@@ -8,4 +8,5 @@ use Rattle.tree_audit.proofs.children.first_broken_child.Given as goal
 
 abbrev pub invariant-loop-place : goal.invariant-loop-place
 invariant-loop-place l =
-    FindsPart l.geometry (image_of_kept l.kept) Children (AskedBelow (ChildrenAskAt l.geometry (image_of_kept l.kept) l.nodes) l.place-index) l.least
+    FindsPart l.volume.geometry (image_in l.volume) Children (AskedBelow
+    (ChildrenAskAt l.volume.geometry (image_in l.volume) l.nodes) l.place-index) l.least

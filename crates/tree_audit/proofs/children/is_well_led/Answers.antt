@@ -5,9 +5,10 @@ use Rattle.log_audit.proofs.Deciding.{no, decided_no, decided_yes}
 use Rattle.tree_audit.proofs.Leading.{edge_is, edge_is_one, moved, no_lead_before, lead_before}
 use Rattle.tree_audit.proofs.children.is_well_led.Goals as goal
 
-pub returns-then-log-target : goal.returns-then-log-target
-returns-then-log-target c = no (λ w.
-    let far = w.edge c.args.log.now.edge (edge_is c.args.log.now c.requires.log) in omega (arith, far, c.if-log-target.true))
+pub returns-then-volume-target : goal.returns-then-volume-target
+returns-then-volume-target c = let volume = c.args.volume.now in
+    no (λ w.
+    let far = w.edge volume.log.edge (edge_is volume.log volume.is_log) in omega (arith, far, c.if-volume-target.true))
 
 pub returns-then-not-is_journaled : goal.returns-then-not-is_journaled
 returns-then-not-is_journaled c = no (λ w. decided_no _ c.is_journaled.ensures c.if-not-is_journaled.true w.journaled)
@@ -23,7 +24,7 @@ pub returns : goal.returns
 returns c =
     let number = lead_number c.args.target 0 in (
       λ yes. record {
-        edge = λ at e. let one = edge_is_one c.requires.log e in omega (arith, one, c.if-log-target.false);
+        edge = λ at e. let one = edge_is_one c.args.volume.now.is_log e in omega (arith, one, c.if-volume-target.false);
         journaled = decided_yes _ c.is_journaled.ensures c.if-not-is_journaled.false;
         first = no_lead_before c.requires.around {number = number} {high = number + c.args.cell} c.requires.leads refl refl
             (λ h. decided_no _ c.has_between.ensures c.if-has_between.false (moved (sym c.deref.ensures.value)

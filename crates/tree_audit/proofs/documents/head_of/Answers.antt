@@ -4,6 +4,7 @@ use Rattle.volume_meaning.specs.Documents.{stored_bytes}
 use Rattle.volume_meaning.specs.Volumes.{IsVolume}
 use Rattle.document_store.proofs.Holding.{stands_held}
 use Rattle.log_audit.specs.Kept.{image_of_kept, view_of}
+use Rattle.log_audit.specs.KeptVolumes.{image_in}
 use Rattle.log_audit.specs.declared.kept.KeptCells.{KeptCells}
 use Rattle.tamper_rules.specs.Rules.{Documents}
 use Rattle.log_audit.specs.Findings.{IsMetAll}
@@ -15,8 +16,8 @@ use Rattle.tree_audit.proofs.documents.head_of.Goals as goal
 
 pub returns-in_default-clause-none : goal.returns-in_default-clause-none
 returns-in_default-clause-none c = λ id body stands.
-    let g = c.args.geometry.now in
-    let h = stands_held g g.cells (image_of_kept c.args.kept.now) c.args.slot id body c.requires.volume stands in
+    let g = c.args.volume.now.geometry in
+    let h = stands_held g g.cells (image_in c.args.volume.now) c.args.slot id body c.requires.stated stands in
     c.in_default.ensures.none h.start h.reserved (length (stored_bytes id body)) h.journal (record { commits = h.done.commits; done = inr h.done.done })
 
 pub read_head-requires-clause-begins : goal.read_head-requires-clause-begins
@@ -24,7 +25,7 @@ read_head-requires-clause-begins c = c.new-position.ensures.begins (view_of c.ne
 
 pub unreachable-requires : goal.unreachable-requires
 unreachable-requires c =
-    let g = c.args.geometry.now in let log = c.args.log.now in let s = c.in-Some.stored in
+    let g = c.args.volume.now.geometry in let log = c.args.volume.now.log in let s = c.in-Some.stored in
     let same = sym c.new-shown.ensures in
     let stored = subst (λ (k : KeptCells). IsStored g (image_of_kept k) s) same c.in-Some.ensures.some in
     let met = subst (λ (k : KeptCells). IsMetAll g (image_of_kept k) Documents) same c.requires.documents in
@@ -33,11 +34,11 @@ unreachable-requires c =
 
 pub returns-clause-some : goal.returns-clause-some
 returns-clause-some c =
-    let g = c.args.geometry.now in let log = c.args.log.now in let s = c.in-Some.stored in
+    let g = c.args.volume.now.geometry in let log = c.args.volume.now.log in let s = c.in-Some.stored in
     let same = sym c.new-shown.ensures in
     let stored = subst (λ (k : KeptCells). IsStored g (image_of_kept k) s) same c.in-Some.ensures.some in
-    let volume = subst (λ (k : KeptCells). IsVolume g.cells (image_of_kept k) g) same c.requires.volume in
-    let is = subst (λ (k : KeptCells). IsLog g (image_of_kept k) log) same c.requires.log in
+    let volume = subst (λ (k : KeptCells). IsVolume g.cells (image_of_kept k) g) same c.requires.stated in
+    let is = subst (λ (k : KeptCells). IsLog g (image_of_kept k) log) same c.args.volume.now.is_log in
     let met = subst (λ (k : KeptCells). IsMetAll g (image_of_kept k) Documents) same c.requires.documents in
     let head = head_was_read g log s c.document_at-start.result c.new-shown.result.kept.now c.read_head.new.view.kept.now stored c.document_at-start.ensures.at
     c.in-Ok.ensures.viewed volume is met c.read_head.new.position c.in-Ok.head c.in-Ok.ensures.ends in

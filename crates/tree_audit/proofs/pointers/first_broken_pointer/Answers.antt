@@ -1,7 +1,7 @@
 -- One block more, and all of them.
 use Rattle.std.proofs.Common.{arith}
 use Rattle.std.proofs.lemmas.Option.{slice_get-get_or}
-use Rattle.log_audit.specs.Kept.{image_of_kept}
+use Rattle.log_audit.specs.KeptVolumes.{image_in}
 use Rattle.tamper_rules.specs.Rules.{Pointers}
 use Rattle.list_audit.proofs.EachBlock.{one_block, every_block}
 use Rattle.tree_audit.specs.Leading.{PointerAsks}
@@ -13,13 +13,15 @@ first_in_block-requires-clause-block c = c.requires.blocks.each c.loop-block.blo
     (slice_get-get_or c.args.blocks.now c.loop-block.block-index (record { list = 0; block = 0 }) (omega arith))
 
 pub loop-block-preserved : goal.loop-block-preserved
-loop-block-preserved c = one_block c.args.geometry.now (image_of_kept c.args.kept.now) Pointers c.args.blocks.now
-    (PointerAsks c.args.geometry.now (image_of_kept c.args.kept.now)) c.loop-block.block-index _ _ _ _ c.loop-block.invariant
+loop-block-preserved c = let volume = c.args.volume.now in
+    one_block volume.geometry (image_in volume) Pointers c.args.blocks.now
+    (PointerAsks volume.geometry (image_in volume)) c.loop-block.block-index _ _ _ _ c.loop-block.invariant
     (slice_get-get_or c.args.blocks.now c.loop-block.block-index (record { list = 0; block = 0 }) (omega arith))
     c.first_in_block.ensures c.lower_of-least.ensures
 
 pub returns : goal.returns
-returns c = every_block c.args.geometry.now (image_of_kept c.args.kept.now) Pointers c.args.blocks.now
-    (PointerAsks c.args.geometry.now (image_of_kept c.args.kept.now)) c.loop-block.block-index _ c.requires.blocks c.loop-block.invariant
-    (omega (arith, c.loop-block-test.false)) (rule_asks c.args.geometry.now (image_of_kept c.args.kept.now))
-    (block_asks c.args.geometry.now (image_of_kept c.args.kept.now))
+returns c = let volume = c.args.volume.now in
+    every_block volume.geometry (image_in volume) Pointers c.args.blocks.now
+    (PointerAsks volume.geometry (image_in volume)) c.loop-block.block-index _ c.requires.blocks c.loop-block.invariant
+    (omega (arith, c.loop-block-test.false)) (rule_asks volume.geometry (image_in volume))
+    (block_asks volume.geometry (image_in volume))

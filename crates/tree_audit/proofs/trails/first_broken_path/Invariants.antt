@@ -1,7 +1,7 @@
 -- The slots below this turn's have hash trails.
-use Rattle.log_audit.specs.Kept.{image_of_kept}
+use Rattle.log_audit.specs.KeptVolumes.{image_in}
 use Rattle.tree_audit.proofs.Trailing.{HaveTrails}
 use Rattle.tree_audit.proofs.trails.first_broken_path.Given as goal
 
 abbrev pub invariant-loop-slot : goal.invariant-loop-slot
-invariant-loop-slot l = HaveTrails l.geometry (image_of_kept l.kept) l.slot
+invariant-loop-slot l = HaveTrails l.volume.geometry (image_in l.volume) l.slot

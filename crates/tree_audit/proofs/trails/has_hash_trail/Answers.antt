@@ -5,7 +5,7 @@ use Rattle.cell_types.specs.declared.record_cell.RecordCell.TheVariants as recor
 use Rattle.volume_meaning.specs.HashPaths.{nibble}
 use Rattle.volume_meaning.specs.Volumes.{Holds}
 use Rattle.document_store.specs.Heads.{id_of}
-use Rattle.log_audit.specs.Kept.{image_of_kept}
+use Rattle.log_audit.specs.KeptVolumes.{image_in}
 use Rattle.log_audit.proofs.Deciding.{no, yes, decided_no, decided_yes}
 use Rattle.tree_audit.specs.Nodes.{HasChildInPool}
 use Rattle.tree_audit.specs.Paths.{IsBucketOfSlot}
@@ -14,7 +14,7 @@ use Rattle.tree_audit.proofs.trails.has_hash_trail.Goals as goal
 
 pub returns-in_default : goal.returns-in_default
 returns-in_default c =
-    let g = c.args.geometry.now in let image = image_of_kept c.args.kept.now in let id = id_of c.args.head.now in
+    let g = c.args.volume.now.geometry in let image = image_in c.args.volume.now in let id = id_of c.args.head.now in
     let level = c.loop-level.level in let node = c.loop-level.node in
     let digest : c.digest-digest.result ≡ sha256 id = c.digest-digest.ensures ∙ ap sha256 c.identifier.ensures in
     let by : c.from-x.result ≡ nibble (sha256 id) level =
@@ -24,7 +24,7 @@ returns-in_default c =
 
 pub returns-then-is_own : goal.returns-then-is_own
 returns-then-is_own c =
-    let g = c.args.geometry.now in let image = image_of_kept c.args.kept.now in let id = id_of c.args.head.now in
+    let g = c.args.volume.now.geometry in let image = image_in c.args.volume.now in let id = id_of c.args.head.now in
     let level = c.loop-level.level in let node = c.loop-level.node in
     let digest : c.digest-digest.result ≡ sha256 id = c.digest-digest.ensures ∙ ap sha256 c.identifier.ensures in
     let by : c.from-x.result ≡ nibble (sha256 id) level =
@@ -36,7 +36,7 @@ returns-then-is_own c =
 
 pub returns-then-not-is_passed : goal.returns-then-not-is_passed
 returns-then-not-is_passed c =
-    let g = c.args.geometry.now in let image = image_of_kept c.args.kept.now in let id = id_of c.args.head.now in
+    let g = c.args.volume.now.geometry in let image = image_in c.args.volume.now in let id = id_of c.args.head.now in
     let level = c.loop-level.level in let node = c.loop-level.node in
     let digest : c.digest-digest.result ≡ sha256 id = c.digest-digest.ensures ∙ ap sha256 c.identifier.ensures in
     let by : c.from-x.result ≡ nibble (sha256 id) level =
@@ -49,7 +49,7 @@ returns-then-not-is_passed c =
 
 pub returns-in_default-child_at : goal.returns-in_default-child_at
 returns-in_default-child_at c =
-    let g = c.args.geometry.now in let image = image_of_kept c.args.kept.now in let id = id_of c.args.head.now in
+    let g = c.args.volume.now.geometry in let image = image_in c.args.volume.now in let id = id_of c.args.head.now in
     let level = c.loop-level.level in let node = c.loop-level.node in
     let digest : c.digest-digest.result ≡ sha256 id = c.digest-digest.ensures ∙ ap sha256 c.identifier.ensures in
     let by : c.from-x.result ≡ nibble (sha256 id) level =
@@ -63,7 +63,7 @@ returns-in_default-child_at c =
 
 pub loop-level-preserved : goal.loop-level-preserved
 loop-level-preserved c =
-    let g = c.args.geometry.now in let image = image_of_kept c.args.kept.now in let id = id_of c.args.head.now in
+    let g = c.args.volume.now.geometry in let image = image_in c.args.volume.now in let id = id_of c.args.head.now in
     let level = c.loop-level.level in let node = c.loop-level.node in
     let digest : c.digest-digest.result ≡ sha256 id = c.digest-digest.ensures ∙ ap sha256 c.identifier.ensures in
     let by : c.from-x.result ≡ nibble (sha256 id) level =

@@ -2,7 +2,7 @@
 use Rattle.std.proofs.Common.{inl, inr, sym, ◌∙◌, ap}
 use Rattle.volume_meaning.specs.HashPaths.{fingerprint_of}
 use Rattle.document_store.specs.Heads.{id_of}
-use Rattle.log_audit.specs.Kept.{image_of_kept}
+use Rattle.log_audit.specs.KeptVolumes.{image_in}
 use Rattle.log_audit.proofs.Deciding.{no, yes, decided_no, decided_yes}
 use Rattle.tree_audit.proofs.Trailing.{unread_not_passed, same_not_passed}
 use Rattle.tree_audit.proofs.trails.is_passed.Goals as goal
@@ -12,15 +12,18 @@ returns-then-not-is_fingerprint c = yes (inl (λ same. decided_no _ c.is_fingerp
     (same ∙ ap fingerprint_of (sym c.requires.digest))))
 
 pub returns-in_default : goal.returns-in_default
-returns-in_default c =
-    let same = decided_yes _ c.is_fingerprint.ensures c.if-not-is_fingerprint.false ∙ ap fingerprint_of c.requires.digest in
-    no (unread_not_passed c.args.geometry.now (image_of_kept c.args.kept.now) c.args.bucket.now same c.in_default.ensures.none)
+returns-in_default c = let volume = c.args.volume.now in
+    let same = decided_yes _ c.is_fingerprint.ensures c.if-not-is_fingerprint.false ∙ ap fingerprint_of
+    c.requires.digest in
+    no (unread_not_passed volume.geometry (image_in volume) c.args.bucket.now same c.in_default.ensures.none)
 
 pub returns-then-same_identifier : goal.returns-then-same_identifier
-returns-then-same_identifier c =
-    let same = decided_yes _ c.is_fingerprint.ensures c.if-not-is_fingerprint.false ∙ ap fingerprint_of c.requires.digest in
+returns-then-same_identifier c = let volume = c.args.volume.now in
+    let same = decided_yes _ c.is_fingerprint.ensures c.if-not-is_fingerprint.false ∙ ap fingerprint_of
+    c.requires.digest in
     let other = c.in-Some.ensures.some in
-    no (same_not_passed c.args.geometry.now (image_of_kept c.args.kept.now) c.args.bucket.now same _ other.body other.stands (decided_yes _ c.same_identifier.ensures c.if-same_identifier.true))
+    no (same_not_passed volume.geometry (image_in volume) c.args.bucket.now same _ other.body other.stands
+    (decided_yes _ c.same_identifier.ensures c.if-same_identifier.true))
 
 pub returns : goal.returns
 returns c =

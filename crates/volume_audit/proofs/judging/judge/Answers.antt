@@ -5,6 +5,7 @@ use Rattle.volume_audit.proofs.judging.judge.Goals as goal
 
 pub returns : goal.returns
 returns g c = (
-  is_settled c.args.geometry.now (image_of_kept c.args.kept.now) c.in_ok-log.log c.in_ok-log.ensures.0 c.in_ok-check_reach.ensures,
+  is_settled c.args.geometry (image_of_kept c.args.kept) c.in_ok-log.log c.in_ok-log.ensures.0
+      c.in_ok-check_reach.ensures,
   c.report_of.ensures,
 )
