@@ -12,7 +12,6 @@ use Rattle.cell_types.specs.declared.refusal.Fault.TheVariants as faults
 use Rattle.cell_types.specs.declared.refusal.Refusal.{Refusal}
 use Rattle.cell_types.specs.declared.refusal.Refusal.TheVariants.{StampTooEarly}
 use Rattle.cell_types.specs.Refusals.{refusal_of_fault}
-use Rattle.tamper_rules.specs.declared.numbers.TheConstants.{DONE_CELL, OUTCOME_CELL, RESERVE_CELL}
 use Rattle.volume_meaning.specs.Slots.{HasStamp, IsDoneSlot}
 use Rattle.volume_meaning.proofs.Extending.{done_slot_on, holds_on}
 use Rattle.worm_device.specs.ReadRows.{IsFoundBetween}
@@ -32,7 +31,7 @@ use Rattle.identifier_lookup.specs.Walks.{WalkFails}
 use Rattle.identifier_lookup.proofs.Licence.{names_licensed, state_rule}
 use Rattle.recovery_engine.specs.declared.settling.Ready.{Ready}
 use Rattle.ingest_engine.specs.Indexing.{LooksPast, PastEnds, ReadsOnDevice}
-use Rattle.ingest_engine.specs.Stamps.{AddsStamps, AreUpTo, IsOneBelow, IsSlotRule, IsStampUpTo, NamesSlot, PastLast, ReadsStamps, GreatestStampEnds, StampsSoFar}
+use Rattle.ingest_engine.specs.Stamps.{AddsStamps, AreUpTo, IsOneBelow, IsStampUpTo, NamesSlot, PastLast, ReadsStamps, GreatestStampEnds, StampsSoFar}
 
 -- what is up to one is up to another that this one is up to
 up_to_then : (first mid last : Option ℕ) → IsStampUpTo first mid → IsStampUpTo mid last → IsStampUpTo first last
@@ -78,11 +77,7 @@ names_since first (faults.Tampered e) names = λ tells. names (subst IsTrue (sym
 -- evidence of a slot's cells is by a rule of them
 names_slot : (g : Layout) (n : ℕ) (old new : ViewState) (e : Evidence) → StateEnds g n old new (Err (faults.Tampered e))
     → NamesSlot old (faults.Tampered e)
-names_slot g n old new e ends = λ tells. with_state e.rule (state_rule (ends.2 tells).seen) where
-  with_state : (rule : ℕ) → (rule ≡ RESERVE_CELL) ⊎ (rule ≡ OUTCOME_CELL) ⊎ (rule ≡ DONE_CELL) → IsSlotRule rule
-  with_state rule (inl reserve) = inl reserve
-  with_state rule (inr (inl outcome)) = inr (inl outcome)
-  with_state rule (inr (inr done)) = inr (inr (inl done))
+names_slot g n old new e ends = λ tells. state_rule (ends.2 tells).seen
 
 -- a slot in another state is not done
 undone : (g : Layout) (n : ℕ) (before after : Image) (state : SlotState) → IsState g before after n state

@@ -17,13 +17,14 @@ use Rattle.worm_device.specs.State.{DeviceState}
 use Rattle.worm_device.specs.Views.{seen_directly}
 use Rattle.hash_tree.specs.declared.level.Level.{Level}
 use Rattle.hash_tree.specs.declared.path.Open.{Open}
+use Rattle.recovery_engine.specs.LastSlot.{IsSlotRule}
 use Rattle.recovery_engine.specs.declared.settling.Ready.{Ready}
 use Rattle.identifier_lookup.specs.Walks.{IsWalkRule, LiesOnPath, WalkEnds, WalkNames}
 use Rattle.identifier_lookup.specs.declared.answers.Walk.{Walk}
 use Rattle.identifier_lookup.specs.declared.answers.Walk.TheVariants as walks
 use Rattle.ingest_plan.specs.Planning.{IsGrowthRule, IsLater, IsPlanned}
 use Rattle.ingest_plan.specs.declared.plan.PlannedIndex.{PlannedIndex}
-use Rattle.ingest_engine.specs.Stamps.{AreUpTo, IsSlotRule, IsStampBelow, GreatestStampEnds}
+use Rattle.ingest_engine.specs.Stamps.{AreUpTo, IsStampBelow, GreatestStampEnds}
 use Rattle.ingest_engine.specs.declared.indexing.PathEnd.{PathEnd}
 
 -- a walk along the identifier's path on the device answers so

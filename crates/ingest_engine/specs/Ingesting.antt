@@ -17,6 +17,7 @@ use Rattle.worm_device.specs.State.{DeviceState, IsDevice, LeftSince}
 use Rattle.commit_record.specs.Licences.{IsLicensed}
 use Rattle.document_store.specs.Looks.{HoldsIdentifier}
 use Rattle.recovery_engine.specs.Settling.{HasSettled, IsFoundBroken, IsSettlingRule, SettleEnds, Settles}
+use Rattle.recovery_engine.specs.LastSlot.{IsSlotRule}
 use Rattle.recovery_engine.specs.declared.settling.Ready.{Ready}
 use Rattle.identifier_lookup.specs.Walks.{HasIdentifierTrail, IsFirstOnPath, IsPassedWhole, IsWalkRule, LiesOnPath, NoneHasTrail}
 use Rattle.plan_writer.specs.Blank.{IsOfNewSlot}
@@ -27,7 +28,6 @@ use Rattle.plan_writer.specs.declared.plan.Plan.{Plan}
 use Rattle.ingest_plan.specs.Planning.{IsLater}
 use Rattle.ingest_plan.specs.declared.plan.PlannedIndex.{PlannedIndex}
 use Rattle.ingest_engine.specs.Indexing.{HasIndex, HasTooMany, IsByGrowthRule, IsGiven, IsStampPast, IsTooEarly}
-use Rattle.ingest_engine.specs.Stamps.{IsSlotRule}
 
 -- The plan is of this document, with this stamp, and of its index, which was planned after settling: it has the index's
 -- blocks, and copies of its cells are the journal.

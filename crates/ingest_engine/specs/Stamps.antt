@@ -7,8 +7,8 @@ use Rattle.cell_types.specs.declared.refusal.Fault.TheVariants as faults
 use Rattle.cell_types.specs.declared.refusal.Refusal.{Refusal}
 use Rattle.cell_types.specs.declared.refusal.Refusal.TheVariants.{StampTooEarly}
 use Rattle.volume_meaning.specs.Slots.{HasStamp, IsDoneSlot}
-use Rattle.tamper_rules.specs.declared.numbers.TheConstants.{BROKEN_DOCUMENT, DONE_CELL, OUTCOME_CELL, RESERVE_CELL}
 use Rattle.worm_device.specs.Views.{ViewState, Viewed}
+use Rattle.recovery_engine.specs.LastSlot.{IsSlotRule}
 use Rattle.identifier_lookup.specs.Walks.{WalkFails}
 
 -- a done slot below n has this stamp
@@ -45,11 +45,6 @@ abbrev pub GreatestStampsAreOne : Type 0
 GreatestStampsAreOne =
     (g : Layout) (image : Image) (n one other : ℕ) → IsGreatestStamp g image n one → IsGreatestStamp g image n other
     → one ≡ other
-
--- the rules of a slot's own cells and of its document
-abbrev pub IsSlotRule : ℕ → Type 0
-IsSlotRule number =
-    (number ≡ RESERVE_CELL) ⊎ (number ≡ OUTCOME_CELL) ⊎ (number ≡ DONE_CELL) ⊎ (number ≡ BROKEN_DOCUMENT)
 
 -- where a look at a slot names a cell, this is by one of these rules
 abbrev pub NamesSlot : ViewState → Fault → Type 0
