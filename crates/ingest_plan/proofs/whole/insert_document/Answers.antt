@@ -76,3 +76,19 @@ returns-in_err-insert-clause-indexes g c =
     c.insert_postings.new.pool.next c.insert_postings.new.pool c.insert.new.pool (of_overlay g.V.View.seen c.args.overlay.now) (of_overlay g.V.View.seen c.insert_postings.new.overlay)
     (of_overlay g.V.View.seen c.insert.new.overlay) c.in_err-insert.field-0.0
     (overlay_shows g.V.View.seen g.met.V.View.proper c.args.overlay.now) c.requires.nothing row entry))
+
+pub nibble_of-half-requires : goal.nibble_of-half-requires
+nibble_of-half-requires g c = c.requires.path.number
+
+pub insert-requires-clause-slot : goal.insert-requires-clause-slot
+insert-requires-clause-slot g c = c.requires.slot
+
+pub insert-requires-clause-room : goal.insert-requires-clause-room
+insert-requires-clause-room g c =
+    omega (arith, c.requires.room, c.insert_postings.ensures.to, c.insert_postings.ensures.end)
+
+pub returns-in_err-insert_postings-clause-from : goal.returns-in_err-insert_postings-clause-from
+returns-in_err-insert_postings-clause-from g c = c.insert_postings.ensures.from
+
+pub returns-in_err-insert_postings-clause-to : goal.returns-in_err-insert_postings-clause-to
+returns-in_err-insert_postings-clause-to g c = omega (arith, c.insert_postings.ensures.to)
