@@ -20,11 +20,12 @@
 //! 584. A last slot that has not ended is no broken rule; it is named by its reserve cell, since an audit settles the
 //! volume first, and then such a slot is somebody else's.
 //!
-//! Once the log is made, the slots that hold documents are those that are done, and each of them is live: `stored_slot`
-//! of slot 0 has its journal at 581 and its document at 580, and `owner_of` a cell is the slot in whose blocks it lies,
-//! which here is none of any cell.
+//! Once the log is made, it goes with the kept cells and the layout into a `KeptVolume`, over which the other rules are
+//! checked. There is none with the log of other cells, so no check asks whether the three belong together. The slots that
+//! hold documents are those that are done, and each of them is live: `stored_slot` of slot 0 has its journal at 581 and its
+//! document at 580, and `owner_of` a cell is the slot in whose blocks it lies, which here is none of any cell.
 //!
-//! `specs/Findings.antt` says what a check of any rule finds, and the crates that check the others use its words. Some
+//! `specs/Findings.antt` says what a check of any rule finds, and `specs/KeptVolumes.antt` says it of such a volume. Some
 //! rules ask the same of each of many blocks or nodes, which may meet and come in any order: `lower_of` joins what was
 //! found at one with what was found at the next, and `specs/Least.antt` says why the last of them is the least of all.
 //! Overlaps are found in sorted numbers: `sort_once` sorts, and `has_between` searches by bisection.
