@@ -1,5 +1,5 @@
 -- From what was judged of kept cells to what an audit tells of the device.
-use Rattle.std.proofs.Common.{◌≡◌, ◌⊎◌, ⊎_elim, ℕ, Some, Result, Ok, Err, refl, sym, ◌∙◌, subst, ap, arith}
+use Rattle.std.proofs.Common.{◌≡◌, ◌⊎◌, ⊎_elim, inl, inr, ℕ, Some, Result, Ok, Err, refl, sym, ◌∙◌, subst, ap, arith}
 use Rattle.std.specs.Prelude.{IsTrue}
 use Rattle.std.proofs.lemmas.Option.{none-some}
 use Rattle.cell_types.specs.Image.{Image, IsUnchanged}
@@ -58,13 +58,14 @@ module _ {old mid new : DeviceState} (r : Ready) (settles : Settles old mid (Ok 
   has_settled : HasSettled old new r
   has_settled = record { settled = mid; settles = settles; looked = called; quiet = unchanged }
 
-  audited : {refusal : Refusal} → AuditEnds old new (Err refusal) → Audits old new (Err refusal)
-  audited ends = record { called = called_then settles.called called; comes = settled r has_settled ends; was = tt }
+  audited : {refusal : Refusal} → WasSound old new (Err refusal) → AuditEnds old new (Err refusal)
+      → Audits old new (Err refusal)
+  audited was ends = record { called = called_then settles.called called; comes = settled r has_settled ends; was = was }
 
   -- not each cell was read
   pub unkept : (refusal : Refusal) → KeepEnds mid new (Err refusal) → Audits old new (Err refusal)
-  unkept refusals.DeviceFault ends = audited (omega (arith, settles.called.faults, ends))
-  unkept refusals.NoMemory ends = audited tt
+  unkept refusals.DeviceFault ends = audited tt (omega (arith, settles.called.faults, ends))
+  unkept refusals.NoMemory ends = audited tt tt
   unkept refusal ends = absurd ends
 
   module _ (kept : KeptCells) (ends : KeepEnds mid new (Ok kept)) where
@@ -77,13 +78,13 @@ module _ {old mid new : DeviceState} (r : Ready) (settles : Settles old mid (Ok 
 
     -- so nothing else is read there
     pub no_volume : (why : OpenRefusal) → StatedBy (image_of_kept kept 0) (count_of kept) (Err why) → Audits old new (Err (refusal_of why))
-    no_volume opens.NotFormatted stated = audited (λ tells. let v = (was_volume tells).volume in
+    no_volume opens.NotFormatted stated = audited tt (λ tells. let v = (was_volume tells).volume in
         none-some v.cell (sym stated ∙ v.stands))
-    no_volume (opens.NotAVolume found) stated = audited (λ tells. let v = (was_volume tells).volume in
+    no_volume (opens.NotAVolume found) stated = audited tt (λ tells. let v = (was_volume tells).volume in
         let both : Some found ≡ Some v.cell = sym stated.0 ∙ v.stands in
         let same : v.cell ≡ found = cc in
         stated.1 r.volume.geometry (subst (IsRecordCell (volume_record r.volume.geometry) 0) same v.is))
-    no_volume (opens.WrongSize size real) stated = audited (λ tells.
+    no_volume (opens.WrongSize size real) stated = audited tt (λ tells.
         let other : IsVolume size (image_of_kept kept) stated.2 = record {
           volume = record { cell = stated.3.0; stands = stated.3.1; is = stated.3.2 };
           size = stated.4;
@@ -168,6 +169,17 @@ module _ {old mid new : DeviceState} (r : Ready) (settles : Settles old mid (Ok 
           report = judges.1;
         },
       )
+      was (Err (refusals.Tampered e)) judges = λ tells. inr (record {
+        image = image_of_kept kept;
+        since = record { keeps = λ cell value is. (is_kept tells).above.keeps cell value (settles.called.image.keeps cell value is) };
+        until = (is_kept tells).below;
+        layout = g;
+        volume = record {
+          volume = volume.volume;
+          size = ap (λ (h : Layout). h.cells) (same_layout tells) ∙ (was_volume tells).size ∙ settles.called.cells;
+        };
+        named = judges;
+      })
       was (Err refusal) judges = tt
 
       pub audits : (result : Result AuditReport Refusal) → Judges g (image_of_kept kept) result → Audits old new result
@@ -178,5 +190,13 @@ module _ {old mid new : DeviceState} (r : Ready) (settles : Settles old mid (Ok 
       }
 
 -- settling was ended
+by_settling : {old new : DeviceState} (refusal : Refusal) → Settles old new (Err refusal) → WasSound old new (Err refusal)
+by_settling (refusals.Tampered e) settles = λ tells. inl settles
+by_settling refusal settles = tt
+
 pub unsettled : {old new : DeviceState} (refusal : Refusal) → Settles old new (Err refusal) → Audits old new (Err refusal)
-unsettled refusal settles = record { called = settles.called; comes = settling refusal refl settles; was = tt }
+unsettled refusal settles = record {
+  called = settles.called;
+  comes = settling refusal refl settles;
+  was = by_settling refusal settles;
+}

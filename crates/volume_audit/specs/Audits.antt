@@ -1,5 +1,5 @@
 -- What it means that a volume is audited.
-use Rattle.std.specs.Prelude.{◌≡◌, ℕ, Result, Ok, Err, IsTrue, ⊤}
+use Rattle.std.specs.Prelude.{◌≡◌, ◌⊎◌, ℕ, Result, Ok, Err, IsTrue, ⊤}
 use Rattle.cell_types.specs.Image.{Extends, Image}
 use Rattle.cell_types.specs.Layout.{Layout}
 use Rattle.cell_types.specs.declared.refusal.Evidence.{Evidence}
@@ -13,6 +13,7 @@ use Rattle.commit_record.specs.Licences.{IsLicensed}
 use Rattle.recovery_engine.specs.Settling.{HasSettled, Settles}
 use Rattle.recovery_engine.specs.declared.settling.Ready.{Ready}
 use Rattle.log_audit.specs.Findings.{IsFirstBroken}
+use Rattle.log_audit.specs.Logs.{IsUnended}
 use Rattle.volume_audit.specs.Reports.{IsSound}
 use Rattle.volume_audit.specs.declared.report.AuditReport.{AuditReport}
 
@@ -43,11 +44,22 @@ pub data SettlesThenAudits (old new : DeviceState) (result : Result AuditReport 
   settling : (refusal : Refusal) → result ≡ Err refusal → Settles old new (Err refusal) → SettlesThenAudits old new result
   settled : (r : Ready) → HasSettled old new r → AuditEnds old new result → SettlesThenAudits old new result
 
--- Whoever else writes, an audit that is done was of a sound volume: what was read lies between what stood at entry and what
--- stands at exit.
+-- In some image between the one at entry and the one at exit, this is the least cell of the least rule that is broken, or
+-- rules 1 to 3 are kept and the slot of this reserve cell has not ended.
+pub record WasBroken (old new : DeviceState) (e : Evidence) : Type 0 where
+  pub image : Image
+  pub since : Extends old.image image
+  pub until : Extends image new.image
+  pub layout : Layout
+  pub volume : IsVolume old.cells image layout
+  pub named : IsFirstBroken layout image e ⊎ IsUnended layout image e
+
+-- Whoever else writes, an audit that is done was of a sound volume, and one that names a cell was of one in which this is
+-- broken, or settling names it: what was read lies between what stood at entry and what stands at exit.
 abbrev pub WasSound : DeviceState → DeviceState → Result AuditReport Refusal → Type 0
 WasSound old new (Ok report) = IsTrue old.tells
     → (image : Image) × Extends old.image image × Extends image new.image × IsSound old.cells image report
+WasSound old new (Err (Tampered e)) = IsTrue old.tells → Settles old new (Err (Tampered e)) ⊎ WasBroken old new e
 WasSound old new (Err refusal) = ⊤
 
 -- what it means that a volume is audited, or why it is not
