@@ -28,7 +28,7 @@ use Rattle.commit_record.specs.declared.slot.SlotState.{SlotState}
 use Rattle.commit_record.specs.declared.slot.SlotState.TheVariants.{Abandoned, Committed, Done, Reserved, Unused}
 use Rattle.document_store.specs.Looks.{of_state}
 use Rattle.identifier_lookup.specs.Walks.{WalkFails}
-use Rattle.identifier_lookup.proofs.Licence.{names_licensed, state_rule}
+use Rattle.identifier_lookup.proofs.Licence.{names_licensed, slot_cell, state_rule}
 use Rattle.recovery_engine.specs.declared.settling.Ready.{Ready}
 use Rattle.ingest_engine.specs.Indexing.{LooksPast, PastEnds, ReadsOnDevice}
 use Rattle.ingest_engine.specs.Stamps.{AddsStamps, AreUpTo, IsOneBelow, IsStampUpTo, NamesSlot, PastLast, ReadsStamps, GreatestStampEnds, StampsSoFar}
@@ -70,14 +70,28 @@ fails_since g first second same (faults.Tampered e) fails horizon edge =
     )
 
 -- and it names a cell by the same rules
-names_since : {old mid : ViewState} → Viewed old mid → (fault : Fault) → NamesSlot mid fault → NamesSlot old fault
+names_since : {n : ℕ} {old mid : ViewState} → Viewed old mid → (fault : Fault) → NamesSlot n mid fault
+    → NamesSlot n old fault
 names_since first faults.Failed names = tt
 names_since first (faults.Tampered e) names = λ tells. names (subst IsTrue (sym first.called.tells) tells)
 
--- evidence of a slot's cells is by a rule of them
+-- evidence of a slot's cells is one of them, by its rule
 names_slot : (g : Layout) (n : ℕ) (old new : ViewState) (e : Evidence) → StateEnds g n old new (Err (faults.Tampered e))
-    → NamesSlot old (faults.Tampered e)
-names_slot g n old new e ends = λ tells. state_rule (ends.2 tells).seen
+    → NamesSlot (n + 1) old (faults.Tampered e)
+names_slot g n old new e ends = λ tells. record {
+  slot = n;
+  below = omega arith;
+  rule = state_rule (ends.2 tells).seen;
+  cell = slot_cell (of_state (ends.2 tells));
+}
+
+-- what is named of slots below one is of slots below a later one
+pub names_further : {n more : ℕ} (old : ViewState) → n ≤ more → (fault : Fault) → NamesSlot n old fault
+    → NamesSlot more old fault
+names_further old less faults.Failed names = tt
+names_further old less (faults.Tampered e) names = λ tells.
+    let is = names tells in
+    record { slot = is.slot; below = omega (arith, is.below, less); rule = is.rule; cell = is.cell }
 
 -- a slot in another state is not done
 undone : (g : Layout) (n : ℕ) (before after : Image) (state : SlotState) → IsState g before after n state
@@ -300,7 +314,7 @@ module _ (g : Layout) (n : ℕ) where
     stopped fault adds = record {
       viewed = viewed_then so.viewed adds.viewed;
       ends = (
-        names_since so.viewed fault adds.ends.0,
+        names_since so.viewed fault (names_further now inside fault adds.ends.0),
         fails_since g so.viewed adds.viewed so.faults fault adds.ends.1,
       );
     }

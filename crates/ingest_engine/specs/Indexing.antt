@@ -17,14 +17,13 @@ use Rattle.worm_device.specs.State.{DeviceState}
 use Rattle.worm_device.specs.Views.{seen_directly}
 use Rattle.hash_tree.specs.declared.level.Level.{Level}
 use Rattle.hash_tree.specs.declared.path.Open.{Open}
-use Rattle.recovery_engine.specs.LastSlot.{IsSlotRule}
 use Rattle.recovery_engine.specs.declared.settling.Ready.{Ready}
 use Rattle.identifier_lookup.specs.Walks.{IsWalkRule, LiesOnPath, WalkEnds, WalkNames}
 use Rattle.identifier_lookup.specs.declared.answers.Walk.{Walk}
 use Rattle.identifier_lookup.specs.declared.answers.Walk.TheVariants as walks
 use Rattle.ingest_plan.specs.Planning.{IsGrowthRule, IsLater, IsPlanned}
 use Rattle.ingest_plan.specs.declared.plan.PlannedIndex.{PlannedIndex}
-use Rattle.ingest_engine.specs.Stamps.{AreUpTo, IsStampBelow, GreatestStampEnds}
+use Rattle.ingest_engine.specs.Stamps.{AreUpTo, IsInLogBelow, IsStampBelow, GreatestStampEnds}
 use Rattle.ingest_engine.specs.declared.indexing.PathEnd.{PathEnd}
 
 -- a walk along the identifier's path on the device answers so
@@ -63,10 +62,6 @@ pub record IsTooEarly (r : Ready) (stamp : Option ℕ) (given last : ℕ) (entry
   pub stands : IsTrue entry.tells → IsStampBelow r.volume.geometry new.image r.horizon last
   pub most : IsTrue entry.tells → AreUpTo r.volume.geometry entry.image 0 r.horizon (Some last)
 
--- named by a rule of slots
-abbrev pub IsBySlotRule : Evidence → Type 0
-IsBySlotRule e = IsSlotRule e.rule
-
 -- Named by a rule of walks; and where cell 0 stated this volume at entry, it lies on the identifier's path, as this
 -- stands at exit.
 pub record IsByPathRule (r : Ready) (id : List ℕ) (entry new : DeviceState) (e : Evidence) : Type 0 where
@@ -88,19 +83,19 @@ IsByWayRule r id body entry new e = IsByPathRule r id entry new e ⊎ IsByGrowth
 -- states the volume that was found ready, and its horizon and its edge are such, the rule is broken there.
 pub record IsFoundOnWay (IsByRule : Evidence → Type 0) (r : Ready) (entry new : DeviceState) (e : Evidence) : Type 0
   where
-  pub rule : IsByRule e
-  pub stands : new.image e.cell ≡ Some e.found
-  pub place : IsPlaceOf r.volume.geometry e.rule e.cell
-  pub broken : IsStill entry.foreign_writes new.foreign_writes → IsVolume new.cells new.image r.volume.geometry
-      → IsHorizon r.volume.geometry new.image new.image r.horizon
-      → IsEdge r.volume.geometry new.image new.image r.edge → IsBroken new.cells new.image e.rule e.cell
+    pub rule : IsByRule e
+    pub stands : new.image e.cell ≡ Some e.found
+    pub place : IsPlaceOf r.volume.geometry e.rule e.cell
+    pub broken : IsStill entry.foreign_writes new.foreign_writes → IsVolume new.cells new.image r.volume.geometry
+        → IsHorizon r.volume.geometry new.image new.image r.horizon
+        → IsEdge r.volume.geometry new.image new.image r.edge → IsBroken new.cells new.image e.rule e.cell
 
 -- What was found in this order: where a stamp is given, the slots are looked at first, for theirs; and only where the stamp
 -- that is given is past them, what is named on the path and in the lists comes.
 abbrev pub IsFoundInOrder
     : Ready → List ℕ → Option ℕ → List ℕ → DeviceState → DeviceState → Evidence → Type 0
 IsFoundInOrder r id stamp body entry new e =
-    (IsGiven stamp × IsFoundOnWay IsBySlotRule r entry new e)
+    (IsGiven stamp × IsFoundOnWay (IsInLogBelow r.horizon) r entry new e)
     ⊎ (IsStampPast r stamp entry × IsFoundOnWay (IsByWayRule r id body entry new) r entry new e)
 
 -- what a walk along the identifier's path on the device does: it changes nothing
@@ -139,7 +134,7 @@ PastEnds r stamp entry new (Ok u) = (new.faults ≡ entry.faults) × IsStampPast
 PastEnds r stamp entry new (Err (StampTooEarly given last)) = IsTooEarly r stamp given last entry new
 PastEnds r stamp entry new (Err DeviceFault) = Rose entry.faults new.faults
 PastEnds r stamp entry new (Err (Tampered e)) =
-    IsGiven stamp × (IsTrue entry.tells → IsFoundOnWay IsBySlotRule r entry new e)
+    IsGiven stamp × (IsTrue entry.tells → IsFoundOnWay (IsInLogBelow r.horizon) r entry new e)
 PastEnds r stamp entry new (Err refusal) = ⊥
 
 -- such a look changes nothing

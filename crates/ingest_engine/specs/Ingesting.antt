@@ -17,7 +17,6 @@ use Rattle.worm_device.specs.State.{DeviceState, IsDevice, LeftSince}
 use Rattle.commit_record.specs.Licences.{IsLicensed}
 use Rattle.document_store.specs.Looks.{HoldsIdentifier}
 use Rattle.recovery_engine.specs.Settling.{HasSettled, IsFoundBroken, IsSettlingRule, SettleEnds, Settles}
-use Rattle.recovery_engine.specs.LastSlot.{IsSlotRule}
 use Rattle.recovery_engine.specs.declared.settling.Ready.{Ready}
 use Rattle.identifier_lookup.specs.Walks.{HasIdentifierTrail, IsFirstOnPath, IsPassedWhole, IsWalkRule, LiesOnPath, NoneHasTrail}
 use Rattle.plan_writer.specs.Blank.{IsOfNewSlot}
@@ -28,6 +27,7 @@ use Rattle.plan_writer.specs.declared.plan.Plan.{Plan}
 use Rattle.ingest_plan.specs.Planning.{IsLater}
 use Rattle.ingest_plan.specs.declared.plan.PlannedIndex.{PlannedIndex}
 use Rattle.ingest_engine.specs.Indexing.{HasIndex, HasTooMany, IsByGrowthRule, IsGiven, IsStampPast, IsTooEarly}
+use Rattle.ingest_engine.specs.Stamps.{IsInLogBelow}
 
 -- The plan is of this document, with this stamp, and of its index, which was planned after settling: it has the index's
 -- blocks, and copies of its cells are the journal.
@@ -213,15 +213,15 @@ pub record IsInTheWay (id : List ℕ) (stamp : Option ℕ) (body : List ℕ) (ol
     pub unput : IsStill old.foreign_writes new.foreign_writes → IsUnchanged looked.image new.image
 
 -- How tampering is named: while the volume was settled; in the way of the plan; or, where the volume was settled and
--- had a free slot, and was only looked at, in the slots, which are looked at for their stamps where a stamp is given;
--- or, once the stamp, if one is given, is past all others, on the path of the identifier, as this stands at exit; or,
--- once this path has come to its end, by a rule of planning.
+-- had a free slot, and was only looked at, in the slots below the horizon, which are looked at for their stamps where a
+-- stamp is given; or, once the stamp, if one is given, is past all others, on the path of the identifier, as this stands
+-- at exit; or, once this path has come to its end, by a rule of planning.
 pub data IsIngestEvidence (id : List ℕ) (stamp : Option ℕ) (body : List ℕ) (old new : DeviceState)
     (e : Evidence) : Type 0 where
   by_settling : Settles old new (Err (Tampered e)) → IsFoundBroken IsSettlingRule old new e
       → IsIngestEvidence id stamp body old new e
   by_plan : IsInTheWay id stamp body old new e → IsIngestEvidence id stamp body old new e
-  among_stamps : (ready : Ready) → HasFreeSlot stamp old new ready → IsGiven stamp → IsSlotRule e.rule
+  among_stamps : (ready : Ready) → HasFreeSlot stamp old new ready → IsGiven stamp → IsInLogBelow ready.horizon e
       → IsLicensed old new e → IsIngestEvidence id stamp body old new e
   on_path : (ready : Ready) (slot : HasFreeSlot stamp old new ready) → IsStampPast ready stamp slot.settled.settled
       → IsWalkRule e.rule → LiesOnPath ready.volume.geometry new.cells new.image id e

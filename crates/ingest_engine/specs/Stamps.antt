@@ -2,6 +2,7 @@
 use Rattle.std.specs.Prelude.{◌≡◌, ◌<◌, ◌≤◌, ◌⊎◌, ℕ, Option, None, Some, Result, Ok, Err, IsTrue, ⊤}
 use Rattle.cell_types.specs.Image.{Image}
 use Rattle.cell_types.specs.Layout.{Layout}
+use Rattle.cell_types.specs.declared.refusal.Evidence.{Evidence}
 use Rattle.cell_types.specs.declared.refusal.Fault.{Fault}
 use Rattle.cell_types.specs.declared.refusal.Fault.TheVariants as faults
 use Rattle.cell_types.specs.declared.refusal.Refusal.{Refusal}
@@ -9,7 +10,7 @@ use Rattle.cell_types.specs.declared.refusal.Refusal.TheVariants.{StampTooEarly}
 use Rattle.volume_meaning.specs.Slots.{HasStamp, IsDoneSlot}
 use Rattle.worm_device.specs.Views.{ViewState, Viewed}
 use Rattle.recovery_engine.specs.LastSlot.{IsSlotRule}
-use Rattle.identifier_lookup.specs.Walks.{WalkFails}
+use Rattle.identifier_lookup.specs.Walks.{IsOfSlot, WalkFails}
 
 -- a done slot below n has this stamp
 pub record IsStampBelow (g : Layout) (image : Image) (n seconds : ℕ) : Type 0 where
@@ -46,10 +47,17 @@ GreatestStampsAreOne =
     (g : Layout) (image : Image) (n one other : ℕ) → IsGreatestStamp g image n one → IsGreatestStamp g image n other
     → one ≡ other
 
--- where a look at a slot names a cell, this is by one of these rules
-abbrev pub NamesSlot : ViewState → Fault → Type 0
-NamesSlot old faults.Failed = ⊤
-NamesSlot old (faults.Tampered e) = IsTrue old.base.tells → IsSlotRule e.rule
+-- the evidence is a cell of the log, of a slot below n: the one that its rule, of the rules of slots, is about
+pub record IsInLogBelow (n : ℕ) (e : Evidence) : Type 0 where
+  pub slot : ℕ
+  pub below : slot < n
+  pub rule : IsSlotRule e.rule
+  pub cell : IsOfSlot slot e
+
+-- where looks at the slots below n name a cell, it is such a one
+abbrev pub NamesSlot : ℕ → ViewState → Fault → Type 0
+NamesSlot n old faults.Failed = ⊤
+NamesSlot n old (faults.Tampered e) = IsTrue old.base.tells → IsInLogBelow n e
 
 -- How reading the stamps of the done slots below n may end, and why. The greatest is told: one of them has it, and none had
 -- a greater one.
@@ -58,7 +66,7 @@ GreatestStampEnds g n old new (Ok last) =
     (new.base.faults ≡ old.base.faults)
     × (IsTrue old.base.tells → AreUpTo g old.image 0 n last × IsOneBelow g new.image n last)
 GreatestStampEnds g n old new (Err fault) =
-    NamesSlot old fault × ((horizon edge : ℕ) → WalkFails g horizon edge old new fault)
+    NamesSlot n old fault × ((horizon edge : ℕ) → WalkFails g horizon edge old new fault)
 
 pub record ReadsStamps (g : Layout) (n : ℕ) (old new : ViewState) (result : Result (Option ℕ) Fault) : Type 0 where
   pub viewed : Viewed old new
@@ -71,7 +79,7 @@ AddStampsEnds g from n greatest old new (Ok last) =
     × (IsTrue old.base.tells
     → AreUpTo g old.image from n last × ((last ≡ greatest) ⊎ IsOneBelow g new.image n last))
 AddStampsEnds g from n greatest old new (Err fault) =
-    NamesSlot old fault × ((horizon edge : ℕ) → WalkFails g horizon edge old new fault)
+    NamesSlot n old fault × ((horizon edge : ℕ) → WalkFails g horizon edge old new fault)
 
 pub record AddsStamps (g : Layout) (from n : ℕ) (greatest : Option ℕ) (old new : ViewState) (result : Result (Option ℕ) Fault)
     : Type 0 where

@@ -2,7 +2,7 @@
 use Rattle.std.proofs.Common.{◌+◌, ◌-◌, ◌<◌, ℕ, arith, Ok, subst}
 use Rattle.cell_types.proofs.Passed.{handed}
 use Rattle.ingest_engine.specs.Stamps.{AddsStamps}
-use Rattle.ingest_engine.proofs.ReadStamps.{adds_more, adds_none, slots_from}
+use Rattle.ingest_engine.proofs.ReadStamps.{adds_more, adds_none, names_further, slots_from}
 use Rattle.ingest_engine.proofs.stamps.latest_in_row.Goals as goal
 
 pub loop-back-init : goal.loop-back-init
@@ -34,7 +34,10 @@ returns-in_err-last c = λ old new reads.
     let one = c.in_err-last.ensures old new
     (slots_from c.args.first place c.args.row.now (omega (arith, turn, c.requires.cells)) reads) in
     rw (handed c.from_residual.result c.in_err-last.field-0.0 c.from_residual.ensures.1)
-    (record { viewed = one.viewed; ends = one.ends })
+    (record {
+      viewed = one.viewed;
+      ends = (names_further old (omega (arith, turn)) c.in_err-last.field-0.0 one.ends.0, one.ends.1);
+    })
 
 pub returns : goal.returns
 returns c = λ old new reads.
