@@ -70,10 +70,10 @@ fails_since g first second same (faults.Tampered e) fails horizon edge =
     )
 
 -- and it names a cell by the same rules
-names_since : {n : ℕ} {old mid : ViewState} → Viewed old mid → (fault : Fault) → NamesSlot n mid fault
+names_since : (n : ℕ) {old mid : ViewState} → Viewed old mid → (fault : Fault) → NamesSlot n mid fault
     → NamesSlot n old fault
-names_since first faults.Failed names = tt
-names_since first (faults.Tampered e) names = λ tells. names (subst IsTrue (sym first.called.tells) tells)
+names_since n first faults.Failed names = tt
+names_since n first (faults.Tampered e) names = λ tells. names (subst IsTrue (sym first.called.tells) tells)
 
 -- evidence of a slot's cells is one of them, by its rule
 names_slot : (g : Layout) (n : ℕ) (old new : ViewState) (e : Evidence) → StateEnds g n old new (Err (faults.Tampered e))
@@ -314,7 +314,7 @@ module _ (g : Layout) (n : ℕ) where
     stopped fault adds = record {
       viewed = viewed_then so.viewed adds.viewed;
       ends = (
-        names_since so.viewed fault (names_further now inside fault adds.ends.0),
+        names_since n so.viewed fault (names_further now inside fault adds.ends.0),
         fails_since g so.viewed adds.viewed so.faults fault adds.ends.1,
       );
     }

@@ -307,7 +307,7 @@ module _ (id : List ℕ) (r : Ready) (old settled mid : DeviceState) (s : Settle
                   },
                 ),
           ) (λ tells. inr (named tells).rule) (λ tells.
-              on_path g (volume_now after tells) (in_slot n (first_now tells) (slot_cell (put.0.2 (told_mid tells)))))
+          on_path g (volume_now after tells) (in_slot n (first_now tells) (slot_cell (put.0.2 (told_mid tells)))))
       look_up_unput bodies.ReadFault twice put = come_to twice (Err DeviceFault)
           (omega (arith, s.called.faults, seen.called.faults, put.0), (put.1, no_more put.2)) tt tt
       look_up_unput bodies.SinkFault twice put = come_to twice (Err SinkFault) (put.1, puts_front put.2) tt tt
