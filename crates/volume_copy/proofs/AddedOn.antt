@@ -37,7 +37,7 @@ use Rattle.volume_copy.specs.Auditing.{IsWholeVolume}
 use Rattle.volume_copy.specs.Alone.{AreAlone}
 use Rattle.volume_copy.specs.Completing.{AreOfOneVersion, IsForRoom}
 use Rattle.volume_copy.specs.First.{HoldsFirst, StaysFirst, none}
-use Rattle.volume_copy.specs.Pairs.{AgreeSoFar, ArePairs, CopiedSoFar, HoldSame, IsNextToCopy, PairsHold}
+use Rattle.volume_copy.specs.Pairs.{AgreeSoFar, AreOfFirst, ArePairs, CopiedSoFar, HoldSame, IsNextToCopy, PairsHold}
 use Rattle.volume_copy.specs.Reading.{HoldsCopy, IsOnlyRead, ReadingFails}
 use Rattle.volume_copy.specs.Refusing.{refusal_from, refusal_to}
 use Rattle.volume_copy.specs.Staying.{IsSoundThroughout}
@@ -46,7 +46,7 @@ use Rattle.volume_copy.specs.declared.moved.Moved.{Moved}
 use Rattle.volume_copy.specs.declared.stored.StoredCopy.{StoredCopy}
 use Rattle.volume_copy.proofs.First.{first_below, first_then}
 use Rattle.volume_copy.proofs.ForRoom.{for_room}
-use Rattle.volume_copy.proofs.PairLists.{by_place, pairs_hold_on, pairs_hold_push, pairs_on, pairs_push, place_in}
+use Rattle.volume_copy.proofs.PairLists.{by_place, first_push, pairs_hold_on, pairs_hold_push, pairs_on, pairs_push, place_in}
 use Rattle.volume_copy.proofs.Stayed.{sound_self, sound_then}
 use Rattle.volume_copy.proofs.Unhindered.{reads_settled}
 use Rattle.volume_copy.proofs.WholeVolumes.{reading_later}
@@ -372,6 +372,7 @@ pub record RestSoFar (source : AuditedVolume) (from now to there : DeviceState) 
   pub same : IsTrue from.tells → IsTrue to.tells → PairsHold from to moved → PairsHold now there moved_now
   pub count : length moved_now ≡ place
   pub goes : CopyGoesOn source from now to there moved moved_now
+  pub first : AreOfFirst source.done.items moved → AreOfFirst source.done.items moved_now
 
 pub rest_none : (source : AuditedVolume) (from to : DeviceState) (moved : List Moved) (place : ℕ) → length moved ≡ place
     → RestSoFar source from from to to moved moved place
@@ -383,6 +384,7 @@ rest_none source from to moved place count = record {
   same = λ from_tells to_tells hold. hold;
   count = count;
   goes = λ alone whole so. so;
+  first = λ are. are;
 }
 
 -- a document that was ingested says the same as the one that was read
@@ -499,6 +501,8 @@ module _ {source : AuditedVolume} {from now new to there then : DeviceState} {mo
         (whole_on device_now so_far.from_read before.from_alone whole) moved_now
         (so_far.goes before whole so) (omega (arith, so_far.count, less)) pair
         (subst (λ (n : ℕ). AddDocumentEnds source n now new there then (Ok pair)) (sym so_far.count) adds.ends);
+    first = λ are. first_push source.done.items moved_now pair (omega (arith, so_far.count, less))
+        (adds.ends.0 ∙ ap (λ (n : ℕ). slice_index source.done.items n) (sym so_far.count)) (so_far.first are);
   }
 
   pub rest_fails : IsDevice now → IsDevice there → IsDevice then → place < length source.done.items → (refusal : CopyRefusal)

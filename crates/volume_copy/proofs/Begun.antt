@@ -38,7 +38,7 @@ use Rattle.volume_copy.specs.Copies.{IsOfVersion, IsOtherVolume, RefusesTo, by_v
 use Rattle.volume_copy.specs.Completing.{EndsUnhindered, IsForRoom}
 use Rattle.volume_copy.specs.First as firsts
 use Rattle.volume_copy.specs.First.{HoldsFirst}
-use Rattle.volume_copy.specs.Pairs.{AnsweredHold, CopiedSoFar, PairsHold}
+use Rattle.volume_copy.specs.Pairs.{AnsweredHold, AreOfFirst, CopiedSoFar, PairsHold}
 use Rattle.volume_copy.specs.Reading.{IsOnlyRead}
 use Rattle.volume_copy.specs.Refusing.{refusal_to}
 use Rattle.volume_copy.specs.Staying.{IsHeldThroughout}
@@ -165,6 +165,7 @@ begins_formatted slots lists version {source} {from} {to} {mid} {new} moved none
           (format_held (layout_for slots lists version mid) (Ok tt) refl device formats);
       same = λ from_tells to_tells. subst (λ (l : List Moved). PairsHold from new l) (sym none)
           (λ pair among. absurd (omega (arith, among.1)));
+      first = subst (λ (l : List Moved). AreOfFirst source.done.items l) (sym none) refl;
       complete = λ free. tt;
       ends = λ alone whole.
           let tells = subst IsTrue (sym called.tells) alone.to_tells in
@@ -340,6 +341,7 @@ module _ (slots lists version : ℕ) {source target : AuditedVolume} {from from'
     to_called = called_then called (called_then audit.called compares.to_read.called);
     to_held = held_all;
     same = all_same result compares.same;
+    first = compares.first;
     complete = λ free. compared_free compares.from_read compares.to_read free held_all result compares.ends;
     ends = go result compares.ends;
   }

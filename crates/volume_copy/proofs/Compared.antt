@@ -29,14 +29,14 @@ use Rattle.volume_copy.specs.Auditing.{IsWholeVolume}
 use Rattle.volume_copy.specs.Comparing.{CompareVolumesEnds, ComparesAll, ComparesNext, FindsOther, FindsSame, IsSameCopy, NextPairEnds, ReadsBoth, WhereWhole}
 use Rattle.volume_copy.specs.Alone.{AreAlone}
 use Rattle.volume_copy.specs.Copies.{HoldOthers, IsFirstPast, IsFirstToDiffer}
-use Rattle.volume_copy.specs.Pairs.{AgreeSoFar, ArePairs, CopiedSoFar, HoldSame, PairsHold, SaysSame}
+use Rattle.volume_copy.specs.Pairs.{AgreeSoFar, AreOfFirst, ArePairs, CopiedSoFar, HoldSame, PairsHold, SaysSame}
 use Rattle.volume_copy.specs.Reading.{HoldsCopy, IsOnlyRead, ReadingFails}
 use Rattle.volume_copy.specs.Refusing.{refusal_from, refusal_to}
 use Rattle.volume_copy.specs.declared.audited.AuditedVolume.{AuditedVolume}
 use Rattle.volume_copy.specs.declared.moved.Moved.{Moved}
 use Rattle.volume_copy.specs.declared.stored.StoredCopy.{StoredCopy}
 use Rattle.volume_copy.proofs.AddedOn.{alone_first, alone_second, can_on, read_none, read_then, whole_on}
-use Rattle.volume_copy.proofs.PairLists.{by_place, pairs_hold_on, pairs_hold_push, pairs_long, pairs_on, pairs_push, place_in, slots_length}
+use Rattle.volume_copy.proofs.PairLists.{by_place, first_push, pairs_hold_on, pairs_hold_push, pairs_long, pairs_on, pairs_push, place_in, slots_length}
 use Rattle.volume_copy.proofs.WholeVolumes.{reading_later}
 
 -- one side could not be read
@@ -300,6 +300,7 @@ pub record ComparedSoFar (source target : AuditedVolume) (from now to there : De
   pub count : length moved ≡ place
   pub agree : WhereWhole source target from now to there (AgreeSoFar now there moved)
   pub same : IsTrue from.tells → IsTrue to.tells → PairsHold now there moved
+  pub first : AreOfFirst source.done.items moved
 
 pub compared_none : {source target : AuditedVolume} {from to : DeviceState} → CanBeRead from source → CanBeRead to target
     → ComparedSoFar source target from from to to [] 0
@@ -309,6 +310,7 @@ compared_none {source} {target} {from} {to} can_s can_u = record {
   count = refl;
   agree = λ alone whole_s whole_u. agree_none can_s can_u alone.from_tells alone.to_tells whole_s whole_u;
   same = λ from_tells to_tells pair among. absurd (omega (arith, among.1));
+  first = refl;
 }
 
 module _ {source target : AuditedVolume} {from now to there : DeviceState} {moved : List Moved} {place : ℕ}
@@ -322,6 +324,7 @@ module _ {source target : AuditedVolume} {from now to there : DeviceState} {move
     from_read = so_far.from_read;
     to_read = so_far.to_read;
     same = tt;
+    first = tt;
     ends = λ alone whole_s whole_u.
         subst (λ (n : ℕ). IsFirstPast now there (slice_index target.done.items n)) so_far.count
         (past (can_on so_far.from_read.called can_s) (can_on so_far.to_read.called can_u)
@@ -339,6 +342,7 @@ module _ {source target : AuditedVolume} {from now to there : DeviceState} {move
     from_read = so_far.from_read;
     to_read = so_far.to_read;
     same = subst (λ (l : List Moved). IsTrue from.tells → IsTrue to.tells → PairsHold now there l) (sym is) so_far.same;
+    first = subst (λ (l : List Moved). AreOfFirst source.done.items l) (sym is) so_far.first;
     ends = λ alone whole_s whole_u.
         let a = so_far.agree alone whole_s whole_u in
         let whole = whole_on device_there so_far.to_read alone.to_alone whole_u in
@@ -407,7 +411,7 @@ pub compared_more : {source target : AuditedVolume} {from now to there new then 
     → IsDevice then → place < length source.done.items → place < length target.done.items → (pair : Moved)
     → ComparesNext source target place now new there then (Ok pair)
     → ComparedSoFar source target from new to then (moved ++ pair ∷ []) (place + 1)
-compared_more {moved = moved} can_s can_u so_far device_now device_there device_new device_then within inside pair next =
+compared_more {source} {moved = moved} can_s can_u so_far device_now device_there device_new device_then within inside pair next =
     record {
       from_read = read_then so_far.from_read next.from_read;
       to_read = read_then so_far.to_read next.to_read;
@@ -421,6 +425,8 @@ compared_more {moved = moved} can_s can_u so_far device_now device_there device_
           (pairs_hold_on next.from_read.called next.to_read.called moved (so_far.same from_tells to_tells))
           (hold_same (can_on p can_s) (can_on q can_u) (subst IsTrue (sym p.tells) from_tells)
           (subst IsTrue (sym q.tells) to_tells) pair.old pair.new next.ends);
+      first = first_push source.done.items moved pair (omega (arith, so_far.count, within))
+          (next.ends.read.old_is ∙ ap (λ (n : ℕ). slice_index source.done.items n) (sym so_far.count)) so_far.first;
     }
 
 -- one was not compared, or differs
@@ -436,6 +442,7 @@ compared_fails {source} {target} {from} {now} {to} {there} {new} {then} {moved} 
       from_read = read_then so_far.from_read next.from_read;
       to_read = read_then so_far.to_read next.to_read;
       same = tt;
+      first = tt;
       ends = go refusal next.ends;
     }
   where

@@ -10,6 +10,7 @@ use Rattle.cell_types.specs.declared.refusal.CopyRefusal.TheVariants as copies
 use Rattle.cell_types.specs.declared.refusal.Refusal.{Refusal}
 use Rattle.cell_types.specs.declared.refusal.Refusal.TheVariants as refusals
 use Rattle.volume_meaning.specs.Documents.{AreDocuments, Document, Stands}
+use Rattle.volume_meaning.specs.Slots.{IsDoneSlot}
 use Rattle.volume_meaning.specs.Volumes.{IsVolume}
 use Rattle.volume_meaning.proofs.Extending.{stands_on, volume_on}
 use Rattle.volume_meaning.specs.Keeping.{IsKept, Kept}
@@ -34,7 +35,7 @@ use Rattle.volume_copy.specs.Alone.{AreAlone}
 use Rattle.volume_copy.specs.Copies.{Copies, CopiesWhole, CopyEnds, HasCopied, HasNumbers, IsFirstThroughout, IsKeptThere, IsOfTarget, KeepsAll, RefusesTo, by_format, by_ingest, by_look, by_volume}
 use Rattle.volume_copy.specs.Completing.{IsForRoom, IsCopyUnhindered}
 use Rattle.volume_copy.specs.First.{HoldsFirst, IsSourceImage, StaysFirst}
-use Rattle.volume_copy.specs.Pairs.{ArePairs, CopiedSoFar}
+use Rattle.volume_copy.specs.Pairs.{AnsweredHold, ArePairs, CopiedSoFar, LeavesNoneOut}
 use Rattle.volume_copy.specs.Reading.{IsOnlyRead}
 use Rattle.volume_copy.specs.Refusing.{refusal_from}
 use Rattle.volume_copy.specs.Staying.{IsHeldThroughout}
@@ -43,7 +44,7 @@ use Rattle.volume_copy.specs.declared.moved.Moved.{Moved}
 use Rattle.volume_copy.proofs.AddedOn.{alone_first, alone_second, can_on, read_none, read_then, whole_on}
 use Rattle.volume_copy.proofs.Begun.{can_audited}
 use Rattle.volume_copy.proofs.First.{first_of_held, first_since, first_then}
-use Rattle.volume_copy.proofs.PairLists.{HasPair, pairs_have, pairs_long, slots_length}
+use Rattle.volume_copy.proofs.PairLists.{HasPair, pair_for, pairs_have, pairs_long, slots_length, stands_there}
 use Rattle.volume_copy.proofs.Stayed.{held_then, read_held, sound_of, sound_self, sound_then}
 use Rattle.volume_copy.proofs.WholeVolumes.{reading_later, stands_among}
 
@@ -58,6 +59,7 @@ not_audited slots lists from from' to refusal called device held audits refuses 
   to_sound = sound_self to;
   to_first = λ alone steady source is holds. first_since to device steady holds (λ since image le left. inl left);
   same = tt;
+  left_out = tt;
   untouched = λ other. read_held device device (read_none to);
   complete = λ free. subst (λ (r : Refusal). IsForRoom (refusal_from r)) (sym (audited free)) tt;
   ends = go refusal refuses;
@@ -233,6 +235,7 @@ module _ {slots lists : ℕ} {source : AuditedVolume} {from audited from1 to to1
         (λ holds. first_since to1 device_to steady holds
         (first_begun begins alone steady alone.to_alone refl refl holds));
     same = tt;
+    left_out = tt;
     untouched = λ other. begins.to_held;
     complete = λ free. begins.complete (record {
       alone = behind free.alone;
@@ -302,6 +305,7 @@ module _ {slots lists : ℕ} {source : AuditedVolume} {from audited from1 to to1
         to_sound = sound_then begins.to_called rest.to_called (sound_of begins.to_held) rest.to_sound;
         to_first = first_rested rest;
         same = tt;
+        left_out = tt;
         untouched = touched refusal rest.ends;
         complete = λ free.
             let before = called_then audit.called begins.from_read.called in
@@ -354,6 +358,40 @@ module _ {slots lists : ℕ} {source : AuditedVolume} {from audited from1 to to1
               ends.ingests.ingests
           go r ends = absurd ends
 
+      -- the documents of the pairs say the same
+      all_same : (new : Vec Moved) → AddsRest source from1 from2 to1 to2 moved.items new.items (Ok tt)
+          → AnsweredHold from from2 to to2 (Ok new)
+      all_same new rest from_tells to_tells =
+          let before = called_then audit.called begins.from_read.called in
+          rest.same (subst IsTrue (sym before.tells) from_tells) (subst IsTrue (sym begins.to_called.tells) to_tells)
+          (begins.same (subst IsTrue (sym audit.called.tells) from_tells) to_tells)
+
+      -- each document that stood in the source has its pair: its slot is one of those that were gone along
+      none_out : (new : Vec Moved) → AddsRest source from1 from2 to1 to2 moved.items new.items (Ok tt)
+          → LeavesNoneOut from to to2 (Ok new)
+      none_out new rest tells d stands =
+          let called = called_then (called_then audit.called begins.from_read.called) rest.from_read.called in
+          let one : stands.layout ≡ source.volume.geometry = one_layout {cells = from.cells} {more = audited.cells}
+          stands.layout source.volume.geometry (volume_on audit.called.image stands.volume) (audit.is_volume tells) in
+          let done : IsDoneSlot source.volume.geometry from.image d.slot =
+          subst (λ (g : Layout). IsDoneSlot g from.image d.slot) one (record {
+            start = stands.start;
+            length = stands.reserved;
+            bytes = _;
+            journal = stands.journal;
+            done = stands.done;
+          }) in
+          let named = pair_for source.done.items new.items d.slot (rest.ends.2 begins.first) rest.ends.0
+          (audit.all tells d.slot done) in
+          record {
+            pair = named.0;
+            among = named.1;
+            old_is = named.2;
+            there = λ to_tells. stands_there (all_same new rest tells to_tells named.0 named.1) d named.2
+                (subst (λ (k : ℕ). Stands k from2.image d.slot d.id d.body) (sym called.cells)
+                (stands_on called.image stands));
+          }
+
       -- they were
       pub rested : (new : Vec Moved) → AddsRest source from1 from2 to1 to2 moved.items new.items (Ok tt)
           → Copies slots lists from from2 to to2 (Ok new)
@@ -365,10 +403,8 @@ module _ {slots lists : ℕ} {source : AuditedVolume} {from audited from1 to to1
             (read_held device device2 (read_then begins.from_read rest.from_read));
         to_sound = sound_then begins.to_called rest.to_called (sound_of begins.to_held) rest.to_sound;
         to_first = first_rested rest;
-        same = λ from_tells to_tells.
-            let before = called_then audit.called begins.from_read.called in
-            rest.same (subst IsTrue (sym before.tells) from_tells) (subst IsTrue (sym begins.to_called.tells) to_tells)
-            (begins.same (subst IsTrue (sym audit.called.tells) from_tells) to_tells);
+        same = all_same new rest;
+        left_out = none_out new rest;
         untouched = λ other. absurd other;
         complete = λ free. tt;
         ends = λ alone.

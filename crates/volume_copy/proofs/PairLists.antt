@@ -1,6 +1,8 @@
 -- Lists of documents that are pairs, and one pair more.
 use Rattle.std.proofs.Common.{◌≡◌, ◌≤◌, ◌<◌, ◌∙◌, ℕ, zero, suc, List, [], ◌∷◌, ◌++◌, Some, None, ⊎_elim, refl, sym, ap, subst, arith, length}
-use Rattle.std.specs.Prelude.{Contains, slice_get, slice_index}
+use Rattle.std.specs.Prelude.{Contains, slice_get, slice_index, take}
+use Rattle.std.proofs.Math.Seq.{take-suc}
+use Rattle.std.proofs.lemmas.List.{length_push, take_all}
 use Rattle.std.proofs.lemmas.List.Elements.{Contains-push_cases}
 use Rattle.std.proofs.lemmas.Option.{get_or_from_slice_get, slice_get-get_or, slice_get_within}
 use Rattle.cell_types.specs.Image.{Extends, Image}
@@ -8,10 +10,11 @@ use Rattle.cell_types.specs.Layout.{Layout}
 use Rattle.volume_meaning.specs.Documents.{Document, Stands}
 use Rattle.volume_meaning.specs.Volumes.{IsVolume}
 use Rattle.volume_meaning.proofs.Extending.{stands_on, volume_on}
+use Rattle.volume_meaning.proofs.OneDocument.{one_document}
 use Rattle.volume_meaning.proofs.Stamps.{stamp_on}
 use Rattle.worm_device.specs.Calls.{Called}
 use Rattle.worm_device.specs.State.{DeviceState}
-use Rattle.volume_copy.specs.Pairs.{ArePairs, HoldSame, PairsHold, SaysSame, slots_of}
+use Rattle.volume_copy.specs.Pairs.{AreOfFirst, ArePairs, HoldSame, PairsHold, SaysSame, old_slots, slots_of}
 use Rattle.volume_copy.specs.declared.moved.Moved.{Moved}
 
 -- documents have as many slots
@@ -138,6 +141,43 @@ module _ (g h : Layout) where
           old_is = rest.old_is;
           new_is = rest.new_is;
         }
+
+-- one pair more names one slot more of the source
+old_push : (moved : List Moved) (m : Moved) → old_slots (moved ++ m ∷ []) ≡ old_slots moved ++ m.old ∷ []
+old_push [] m = refl
+old_push (n ∷ moved) m = ap (λ (l : List ℕ). n.old ∷ l) (old_push moved m)
+
+pub first_push : (done : List ℕ) (moved : List Moved) (m : Moved) → length moved < length done
+    → m.old ≡ slice_index done (length moved) → AreOfFirst done moved → AreOfFirst done (moved ++ m ∷ [])
+first_push done moved m less is first =
+    let more : suc (length moved) ≡ length (moved ++ m ∷ []) = omega (arith, length_push moved m) in
+    old_push moved m ∙ ap (λ (l : List ℕ). l ++ m.old ∷ []) first
+    ∙ ap (λ (n : ℕ). take (length moved) done ++ n ∷ []) is ∙ sym (take-suc done (length moved) 0 less)
+    ∙ ap (λ (n : ℕ). take n done) more
+
+-- each slot that is named is that of a pair
+pair_of : (moved : List Moved) (n : ℕ) → Contains (old_slots moved) n → (m : Moved) × Contains moved m × (m.old ≡ n)
+pair_of [] n (k, low, is) = absurd (omega (arith, low))
+pair_of (m ∷ moved) n (zero, low, is) = (m, (zero, omega arith, refl), is)
+pair_of (m ∷ moved) n (suc k, low, is) =
+    let rest = pair_of moved n (k, omega (arith, low), is) in
+    (rest.0, ((suc (rest.1).0, omega (arith, (rest.1).1), (rest.1).2)), rest.2)
+
+-- with as many pairs as slots, each slot has one
+pub pair_for : (done : List ℕ) (moved : List Moved) (n : ℕ) → AreOfFirst done moved → length done ≤ length moved
+    → Contains done n → (m : Moved) × Contains moved m × (m.old ≡ n)
+pair_for done moved n first all among = pair_of moved n
+    (subst (λ (l : List ℕ). Contains l n) (sym (first ∙ take_all (length moved) done all)) among)
+
+-- the document that stands in the slot of a pair, and the one that it names in the target, are the same
+pub stands_there : {s t : DeviceState} {old new : ℕ} → HoldSame s t old new → (d : Document) → old ≡ d.slot
+    → Stands s.cells s.image d.slot d.id d.body → Stands t.cells t.image new d.id d.body
+stands_there {s} {t} {old} {new} is d named stands =
+    let one = one_document s.cells s.image d.slot is.d.id is.d.body d.id d.body
+    (subst (λ (k : ℕ). Stands s.cells s.image k is.d.id is.d.body) (sym is.old_is ∙ named) is.there) stands in
+    subst (λ (k : ℕ). Stands t.cells t.image k d.id d.body) (sym is.new_is)
+    (subst (λ (x : List ℕ). Stands t.cells t.image is.e.slot x d.body) (is.same.id ∙ one.0)
+    (subst (λ (x : List ℕ). Stands t.cells t.image is.e.slot is.e.id x) (is.same.body ∙ one.1) is.here))
 
 -- documents that say the same go on doing so
 pub hold_on : {s t u v : DeviceState} {old new : ℕ} → Called s t → Called u v → HoldSame s u old new → HoldSame t v old new

@@ -1,5 +1,5 @@
 -- What is known of a volume that was audited, and whose slots were asked.
-use Rattle.std.proofs.Common.{◌≡◌, ◌<◌, ◌+◌, ◌⊎◌, ◌∙◌, ℕ, zero, suc, List, [], ◌∷◌, Ok, Err, ⊎_elim, refl, sym, ap, subst, arith, length}
+use Rattle.std.proofs.Common.{◌≡◌, ◌<◌, ◌+◌, ◌⊎◌, ◌∙◌, ℕ, zero, suc, List, [], ◌∷◌, Some, Ok, Err, ⊎_elim, refl, sym, ap, subst, arith, length}
 use Rattle.std.specs.Prelude.{Contains, IsTrue, slice_index}
 use Rattle.std.specs.Global.{Vec}
 use Rattle.std.proofs.lemmas.Bool.{cases_order}
@@ -10,11 +10,11 @@ use Rattle.cell_types.specs.Layout.{Layout, reserve_at}
 use Rattle.cell_types.specs.declared.refusal.Refusal.{Refusal}
 use Rattle.cell_types.specs.declared.refusal.Refusal.TheVariants.{DeviceFault, NoMemory, Tampered}
 use Rattle.volume_meaning.specs.Documents.{AreDocuments, Document, IsDocument, Rise, Stands}
-use Rattle.volume_meaning.specs.Slots.{IsDoneSlot, IsHorizon}
+use Rattle.volume_meaning.specs.Slots.{IsDoneSlot, IsHorizon, Reserves}
 use Rattle.volume_meaning.specs.Volumes.{IsVolume, IsWritten}
-use Rattle.volume_meaning.proofs.Extending.{volume_on}
+use Rattle.volume_meaning.proofs.Extending.{done_slot_on, volume_on}
 use Rattle.volume_meaning.proofs.Lists.{Rising, one_list}
-use Rattle.tamper_rules.specs.Settling.{After, Settled, Sound, nothing}
+use Rattle.tamper_rules.specs.Settling.{IsSettled, Settled, Sound, nothing}
 use Rattle.tamper_rules.proofs.DocumentLists.{done_stands}
 use Rattle.tamper_rules.proofs.GivenUp.{one_layout}
 use Rattle.tamper_rules.proofs.Images.{same_both, same_image}
@@ -24,13 +24,13 @@ use Rattle.worm_device.specs.Counts.{IsStill}
 use Rattle.worm_device.specs.State.{DeviceState, IsDevice}
 use Rattle.worm_device.proofs.Counting.{still_first, still_second}
 use Rattle.worm_device.proofs.Elapsing.{called_then}
-use Rattle.worm_device.proofs.Images.{extends_then}
+use Rattle.worm_device.proofs.Images.{extends_self, extends_then}
 use Rattle.recovery_engine.specs.Settling.{Settles}
 use Rattle.recovery_engine.specs.declared.settling.Ready.{Ready}
 use Rattle.crash_laws.specs.SettlingSteadiness.{EndsAs}
 use Rattle.crash_laws.proofs.EndedAs.{settling_ends}
 use Rattle.crash_laws.proofs.LookedAt.{looked_ends}
-use Rattle.volume_audit.specs.Audits.{AuditEnds, Audits, SettlesThenAudits, settled, settling}
+use Rattle.volume_audit.specs.Audits.{Audits, SettlesThenAudits, settled, settling}
 use Rattle.volume_audit.specs.Reports.{IsSound}
 use Rattle.volume_audit.specs.declared.report.AuditReport.{AuditReport}
 use Rattle.volume_copy.specs.Auditing.{HasAudited, IsWholeVolume, RefusesVolume, by_audit, by_reading, by_settling}
@@ -114,7 +114,7 @@ module _ (cells : ℕ) (image : Image) (g : Layout) (volume : IsVolume cells ima
     here n among =
         let v : IsVolume g.cells image g = subst (λ (c : ℕ). IsVolume c image g) (sym volume.size) volume in
         let one : whole.layout ≡ g = one_layout {cells = cells} {more = cells} whole.layout g whole.volume volume in
-        let s = subst (λ (h : Layout). Rattle.tamper_rules.specs.Settling.IsSettled h image) one whole.settled in
+        let s = subst (λ (h : Layout). IsSettled h image) one whole.settled in
         let found = done_stands v s u horizon (are_done.done n among) in
         slot_in documents _ (stands_among cells image whole documents are n found.0 found.1
         (subst (λ (c : ℕ). Stands c image n found.0 found.1) volume.size found.2))
@@ -235,7 +235,48 @@ module _ {old a b new : DeviceState} {report : AuditReport} (r : Ready) (audits 
         (subst (λ (i : Image). IsHorizon r.volume.geometry a.image i r.horizon) (sym same_new)
         (settles.ends.1 (tells_a tells)).horizon)
 
+  -- a slot that was done at entry lies below the horizon, whoever else writes: what was sound has each slot below it taken
+  lies_below : IsTrue old.tells → (n : ℕ) → IsDoneSlot r.volume.geometry old.image n → n < r.horizon
+  lies_below tells n done = ⊎_elim
+      (λ (same : n ≡ r.horizon). absurd (none-some _
+      (sym (horizon_a.free (omega (arith, same, reserves.slot))) ∙ ap (λ (i : ℕ). a.image (reserve_at i)) (sym same)
+      ∙ later (reserve_at n) taken.found taken.stands)))
+      (λ (differ : (n < r.horizon) ⊎ (r.horizon < n)). ⊎_elim (λ less. less)
+      (λ above. absurd (let w = taken_below r.volume.geometry was.0 settled_was n reserves.slot taken r.horizon above in
+      none-some _ (sym (horizon_a.free (omega (arith, above, reserves.slot))) ∙ later (reserve_at r.horizon) w.found w.stands)))
+      differ)
+      (cases_order n r.horizon)
+    where
+      was : (image : Image) × Extends old.image image × Extends image a.image × IsSound old.cells image report
+      was = audits.was tells
+
+      later : (cell : ℕ) (value : List ℕ) → was.0 cell ≡ Some value → a.image cell ≡ Some value
+      later cell value stands = was.2.keeps cell value stands
+
+      horizon_a : IsHorizon r.volume.geometry a.image b.image r.horizon
+      horizon_a = (settles.ends.1 (tells_a tells)).horizon
+
+      one : was.3.layout ≡ r.volume.geometry
+      one = one_layout {cells = old.cells} {more = b.cells} was.3.layout r.volume.geometry
+          (volume_on (extends_then was.2 settles.called.image) was.3.volume) (volume_b tells)
+
+      settled_was : IsSettled r.volume.geometry was.0
+      settled_was = subst (λ (g : Layout). IsSettled g was.0) one was.3.settled
+
+      done_was : IsDoneSlot r.volume.geometry was.0 n
+      done_was = done_slot_on (extends_self old.image) was.1 done
+
+      reserves : Reserves r.volume.geometry was.0 n done_was.start done_was.length
+      reserves = done_was.done.commits.reserves
+
+      taken : IsWritten was.0 (reserve_at n)
+      taken = written reserves
+
   module _ (slots : Vec ℕ) (walk : CopyWalkEnds r.volume.geometry r.horizon b new (Ok slots)) where
+    all : IsTrue old.tells → (n : ℕ) → IsDoneSlot r.volume.geometry old.image n → Contains slots.items n
+    all tells n done = (walk.1 (tells_b tells)).all n (lies_below tells n done)
+        (done_slot_on (extends_self old.image) up_to_b.image done)
+
     among : (place : ℕ) → place < length slots.items → Contains slots.items (slice_index slots.items place)
     among place less = Contains-get_or slots.items place 0 less
 
@@ -262,6 +303,7 @@ module _ {old a b new : DeviceState} {report : AuditReport} (r : Ready) (audits 
           omega (arith, low, settles.ends.0.horizon);
       is_volume = volume_new;
       done = λ tells place less. (walk.1 (tells_b tells)).done _ (among place less);
+      all = all;
       whole = whole;
       settles = settles_as;
     }

@@ -15,7 +15,7 @@ use Rattle.volume_copy.specs.Alone.{AreAlone, AreUnfailed}
 use Rattle.volume_copy.specs.Completing.{AreOfOneVersion, EndsUnhindered}
 use Rattle.volume_copy.specs.First.{StaysFirst}
 use Rattle.volume_copy.specs.Auditing.{IsWholeVolume}
-use Rattle.volume_copy.specs.Pairs.{CopiedSoFar, IsNextToCopy, PairsHold}
+use Rattle.volume_copy.specs.Pairs.{AreOfFirst, CopiedSoFar, IsNextToCopy, PairsHold}
 use Rattle.volume_copy.specs.Reading.{IsOnlyRead, ReadingFails}
 use Rattle.volume_copy.specs.Staying.{IsSoundThroughout}
 use Rattle.volume_copy.specs.declared.audited.AuditedVolume.{AuditedVolume}
@@ -106,12 +106,13 @@ abbrev pub CopyGoesOn : AuditedVolume → DeviceState → DeviceState → Device
 CopyGoesOn source from from' to to' moved moved' =
     WhereCopied source from from' to to' moved (CopiedSoFar from' to' moved')
 
--- how it may end, and why
+-- how it may end, and why; at Ok there is a pair for each slot of the source, if there was one for each of the first
 abbrev pub RestEnds
     : AuditedVolume → DeviceState → DeviceState → DeviceState → DeviceState → List Moved → List Moved
     → Result Unit CopyRefusal → Type 0
 RestEnds source from from' to to' moved moved' (Ok u) =
     (length source.done.items ≤ length moved') × CopyGoesOn source from from' to to' moved moved'
+    × (AreOfFirst source.done.items moved → AreOfFirst source.done.items moved')
 RestEnds source from from' to to' moved moved' (Err refusal) =
     RestFails source moved from from' to to' refusal
 

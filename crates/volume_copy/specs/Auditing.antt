@@ -1,5 +1,5 @@
 -- What it means that a volume is audited before it is copied, and what is known of it then.
-use Rattle.std.specs.Prelude.{◌≡◌, ◌<◌, ℕ, List, length, slice_index, Result, Ok, Err, IsTrue}
+use Rattle.std.specs.Prelude.{◌≡◌, ◌<◌, ℕ, List, length, slice_index, Contains, Result, Ok, Err, IsTrue}
 use Rattle.cell_types.specs.Image.{IsUnchanged}
 use Rattle.cell_types.specs.Layout.{IsLayout, Layout}
 use Rattle.cell_types.specs.declared.refusal.Refusal.{Refusal}
@@ -32,7 +32,8 @@ pub record IsWholeVolume (s : DeviceState) (done : List ℕ) : Type 0 where
   pub sure : IsUnchanged s.image s.sure
   pub slots : (documents : List Document) → AreDocuments s.cells s.image documents → slots_of documents ≡ done
 
--- A volume was audited, and is as settling makes it of a sound image. Its numbers are such ones over every device.
+-- A volume was audited, and is as settling makes it of a sound image. Its numbers are such ones over every device. Each slot
+-- that was done at entry is among those that are gone along, whoever else writes.
 pub record HasAudited (old new : DeviceState) (volume : AuditedVolume) : Type 0 where
   pub called : Called old new
   pub version : volume.volume.version ≡ volume.volume.geometry.version
@@ -43,6 +44,7 @@ pub record HasAudited (old new : DeviceState) (volume : AuditedVolume) : Type 0 
   pub is_volume : IsTrue old.tells → IsVolume new.cells new.image volume.volume.geometry
   pub done : IsTrue old.tells → (place : ℕ) → place < length volume.done.items
       → IsDoneSlot volume.volume.geometry new.image (slice_index volume.done.items place)
+  pub all : IsTrue old.tells → (n : ℕ) → IsDoneSlot volume.volume.geometry old.image n → Contains volume.done.items n
   pub whole : IsTrue old.tells → IsStill old.foreign_writes new.foreign_writes → IsWholeVolume new volume.done.items
   pub settles : IsTrue old.tells → IsStill old.foreign_writes new.foreign_writes → (sound : Sound old.cells old.image)
       → new.image ≡ sound.after

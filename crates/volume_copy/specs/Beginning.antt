@@ -15,7 +15,7 @@ use Rattle.volume_copy.specs.Alone.{AreAlone, AreUnfailed}
 use Rattle.volume_copy.specs.Completing.{EndsUnhindered}
 use Rattle.volume_copy.specs.First.{HoldsFirst}
 use Rattle.volume_copy.specs.Copies.{HasNumbers, HoldOthers, IsFirstPast, IsFirstToDiffer, IsOtherVolume, RefusesTo}
-use Rattle.volume_copy.specs.Pairs.{AnsweredHold, CopiedSoFar}
+use Rattle.volume_copy.specs.Pairs.{AnsweredFirst, AnsweredHold, CopiedSoFar}
 use Rattle.volume_copy.specs.Reading.{IsOnlyRead, ReadingFails}
 use Rattle.volume_copy.specs.Staying.{IsHeldThroughout}
 use Rattle.volume_copy.specs.declared.audited.AuditedVolume.{AuditedVolume}
@@ -79,6 +79,7 @@ pub record BeginsCopy (slots lists : ℕ) (source : AuditedVolume) (from from' t
   pub to_called : Called to to'
   pub to_held : IsHeldThroughout to to'
   pub same : AnsweredHold from from' to to' result
+  pub first : AnsweredFirst source.done.items result
   pub complete : IsCopyFree source from from' to to' → EndsUnhindered result
   pub ends : BeginEnds slots lists source from from' to to' result
 

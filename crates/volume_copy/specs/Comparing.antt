@@ -8,7 +8,7 @@ use Rattle.worm_device.specs.State.{DeviceState}
 use Rattle.volume_copy.specs.Auditing.{IsWholeVolume}
 use Rattle.volume_copy.specs.Alone.{AreAlone}
 use Rattle.volume_copy.specs.Copies.{HoldOthers, IsFirstPast, IsFirstToDiffer}
-use Rattle.volume_copy.specs.Pairs.{AnsweredHold, CopiedSoFar}
+use Rattle.volume_copy.specs.Pairs.{AnsweredFirst, AnsweredHold, CopiedSoFar}
 use Rattle.volume_copy.specs.Reading.{HoldsCopy, IsOnlyRead, ReadingFails}
 use Rattle.volume_copy.specs.declared.audited.AuditedVolume.{AuditedVolume}
 use Rattle.volume_copy.specs.declared.moved.Moved.{Moved}
@@ -86,4 +86,5 @@ pub record ComparesAll (source target : AuditedVolume) (from from' to to' : Devi
   pub from_read : IsOnlyRead from from'
   pub to_read : IsOnlyRead to to'
   pub same : AnsweredHold from from' to to' result
+  pub first : AnsweredFirst source.done.items result
   pub ends : CompareVolumesEnds source target from from' to to' result

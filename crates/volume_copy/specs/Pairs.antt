@@ -16,6 +16,20 @@ abbrev pub slots_of : List Document → List ℕ
 slots_of [] = []
 slots_of (d ∷ ds) = d.slot ∷ slots_of ds
 
+-- the slots that pairs name in the source
+abbrev pub old_slots : List Moved → List ℕ
+old_slots [] = []
+old_slots (m ∷ moved) = m.old ∷ old_slots moved
+
+-- there is a pair for each of the first ones of these slots, in order, and no other
+abbrev pub AreOfFirst : List ℕ → List Moved → Type 0
+AreOfFirst done moved = old_slots moved ≡ take (length moved) done
+
+-- so it is of the pairs that are answered
+abbrev pub AnsweredFirst : List ℕ → Result (Vec Moved) CopyRefusal → Type 0
+AnsweredFirst done (Ok moved) = AreOfFirst done moved.items
+AnsweredFirst done (Err refusal) = ⊤
+
 -- The document of one volume says the same as that of another: it has its identifier and its body, and where documents are
 -- stamped its stamp.
 pub record SaysSame (g h : Layout) (from to : Image) (d e : Document) : Type 0 where
@@ -57,6 +71,20 @@ abbrev pub AnsweredHold
     : DeviceState → DeviceState → DeviceState → DeviceState → Result (Vec Moved) CopyRefusal → Type 0
 AnsweredHold from from' to to' (Ok moved) = IsTrue from.tells → IsTrue to.tells → PairsHold from' to' moved.items
 AnsweredHold from from' to to' (Err refusal) = ⊤
+
+-- A pair names the slot of a document of the source; and the same document, where the target tells, stands there in the
+-- slot that it names in the target.
+pub record HasItsPair (to to' : DeviceState) (moved : List Moved) (d : Document) : Type 0 where
+  pub pair : Moved
+  pub among : Contains moved pair
+  pub old_is : pair.old ≡ d.slot
+  pub there : IsTrue to.tells → Stands to'.cells to'.image pair.new d.id d.body
+
+-- Where the source tells, each document that stood there at entry has its pair, whoever else writes: none is left out.
+abbrev pub LeavesNoneOut : DeviceState → DeviceState → DeviceState → Result (Vec Moved) CopyRefusal → Type 0
+LeavesNoneOut from to to' (Ok moved) =
+    IsTrue from.tells → (d : Document) → Stands from.cells from.image d.slot d.id d.body → HasItsPair to to' moved.items d
+LeavesNoneOut from to to' (Err refusal) = ⊤
 
 -- Two devices hold volumes, and as many first documents of the one as there are pairs say the same as the first ones of
 -- the other.

@@ -43,6 +43,7 @@ returns-in_default g c = record {
   from_read = read_then c.loop-place.invariant.from_read c.in-Ok.ensures.from_read;
   to_read = read_then c.loop-place.invariant.to_read c.in-Ok.ensures.to_read;
   same = tt;
+  first = tt;
   ends = tt;
 }
 

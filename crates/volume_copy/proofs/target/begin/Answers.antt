@@ -19,6 +19,7 @@ returns-in_default g c = record {
   to_held = read_held (g.met.E.Device.proper c.args.to.now) (g.met.E.Device.proper c.read.new.self)
       (read_once c.read.ensures);
   same = tt;
+  first = tt;
   complete = λ free. absurd (rose_or_still _ _ c.in_default.ensures.cause free.unfailed.to_unfailed);
   ends = by_look refl c.in_default.ensures.cause;
 }
@@ -42,6 +43,7 @@ returns-in-Err g c = record {
       (read_held (g.met.E.Device.proper c.args.to.now) (g.met.E.Device.proper c.read.new.self) (read_once c.read.ensures))
       (format_held _ _ refl (g.met.E.Device.proper c.read.new.self) c.in-Err.ensures);
   same = tt;
+  first = tt;
   complete = rw c.to_target.ensures (λ free. format_free _ (read_once c.read.ensures)
       (sym (c.in-Ok.ensures.answer free.alone.to_tells) ∙ c.in_default-found.is) c.in-Err.refusal c.in-Err.ensures free);
   ends = rw c.to_target.ensures (begin_refuses c.args.slots c.args.lists c.args.source.now _ _ _ _ c.in-Err.refusal
@@ -58,6 +60,7 @@ returns-then-states_other g c = record {
   to_held = read_held (g.met.E.Device.proper c.args.to.now) (g.met.E.Device.proper c.read.new.self)
       (read_once c.read.ensures);
   same = tt;
+  first = tt;
   complete = rw c.other_volume.ensures (λ free. tt);
   ends = rw c.other_volume.ensures (is_another c.read.ensures.only
       (λ tells. sym (c.in-Ok.ensures.answer (subst IsTrue c.read.ensures.called.tells tells)) ∙ c.in-Some.is)
@@ -94,6 +97,7 @@ returns-in-Err-audited_volume g c = record {
       (read_held (g.met.E.Device.proper c.args.to.now) (g.met.E.Device.proper c.read.new.self) (read_once c.read.ensures))
       c.audited_volume.ensures.held;
   same = tt;
+  first = tt;
   complete = rw c.to_target-in-Err-audited_volume.ensures (audit_free (g.met.E.Device.proper c.args.to.now)
       (g.met.E.Device.proper c.read.new.self) (read_once c.read.ensures)
       (refuses_called c.in-Err-audited_volume.ensures.ends) c.in-Some.cell
