@@ -411,7 +411,8 @@ pub compared_more : {source target : AuditedVolume} {from now to there new then 
     → IsDevice then → place < length source.done.items → place < length target.done.items → (pair : Moved)
     → ComparesNext source target place now new there then (Ok pair)
     → ComparedSoFar source target from new to then (moved ++ pair ∷ []) (place + 1)
-compared_more {source} {moved = moved} can_s can_u so_far device_now device_there device_new device_then within inside pair next =
+compared_more {source} {moved = moved} can_s can_u so_far device_now device_there device_new device_then within inside
+    pair next =
     record {
       from_read = read_then so_far.from_read next.from_read;
       to_read = read_then so_far.to_read next.to_read;

@@ -36,7 +36,7 @@ use Rattle.volume_copy.specs.Copies.{Copies, CopiesWhole, CopyEnds, HasCopied, H
 use Rattle.volume_copy.specs.Completing.{IsForRoom, IsCopyUnhindered}
 use Rattle.volume_copy.specs.First.{HoldsFirst, IsSourceImage, StaysFirst}
 use Rattle.volume_copy.specs.Pairs.{AnsweredHold, ArePairs, CopiedSoFar, LeavesNoneOut}
-use Rattle.volume_copy.specs.Reading.{IsOnlyRead}
+use Rattle.volume_copy.specs.Reading.{IsOnlyRead, RiseFrom}
 use Rattle.volume_copy.specs.Refusing.{refusal_from}
 use Rattle.volume_copy.specs.Staying.{IsHeldThroughout}
 use Rattle.volume_copy.specs.declared.audited.AuditedVolume.{AuditedVolume}
@@ -44,7 +44,7 @@ use Rattle.volume_copy.specs.declared.moved.Moved.{Moved}
 use Rattle.volume_copy.proofs.AddedOn.{alone_first, alone_second, can_on, read_none, read_then, whole_on}
 use Rattle.volume_copy.proofs.Begun.{can_audited}
 use Rattle.volume_copy.proofs.First.{first_of_held, first_since, first_then}
-use Rattle.volume_copy.proofs.PairLists.{HasPair, pair_for, pairs_have, pairs_long, slots_length, stands_there}
+use Rattle.volume_copy.proofs.PairLists.{HasPair, all_first, pair_for, pairs_have, pairs_long, slots_length, stands_there}
 use Rattle.volume_copy.proofs.Stayed.{held_then, read_held, sound_of, sound_self, sound_then}
 use Rattle.volume_copy.proofs.WholeVolumes.{reading_later, stands_among}
 
@@ -60,6 +60,7 @@ not_audited slots lists from from' to refusal called device held audits refuses 
   to_first = λ alone steady source is holds. first_since to device steady holds (λ since image le left. inl left);
   same = tt;
   left_out = tt;
+  in_order = tt;
   untouched = λ other. read_held device device (read_none to);
   complete = λ free. subst (λ (r : Refusal). IsForRoom (refusal_from r)) (sym (audited free)) tt;
   ends = go refusal refuses;
@@ -236,6 +237,7 @@ module _ {slots lists : ℕ} {source : AuditedVolume} {from audited from1 to to1
         (first_begun begins alone steady alone.to_alone refl refl holds));
     same = tt;
     left_out = tt;
+    in_order = tt;
     untouched = λ other. begins.to_held;
     complete = λ free. begins.complete (record {
       alone = behind free.alone;
@@ -306,6 +308,7 @@ module _ {slots lists : ℕ} {source : AuditedVolume} {from audited from1 to to1
         to_first = first_rested rest;
         same = tt;
         left_out = tt;
+        in_order = tt;
         untouched = touched refusal rest.ends;
         complete = λ free.
             let before = called_then audit.called begins.from_read.called in
@@ -405,6 +408,8 @@ module _ {slots lists : ℕ} {source : AuditedVolume} {from audited from1 to to1
         to_first = first_rested rest;
         same = all_same new rest;
         left_out = none_out new rest;
+        in_order = subst (λ (l : List ℕ). RiseFrom 0 l)
+            (sym (all_first source.done.items new.items (rest.ends.2 begins.first) rest.ends.0)) audit.rise;
         untouched = λ other. absurd other;
         complete = λ free. tt;
         ends = λ alone.

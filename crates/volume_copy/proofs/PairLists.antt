@@ -163,11 +163,16 @@ pair_of (m ∷ moved) n (suc k, low, is) =
     let rest = pair_of moved n (k, omega (arith, low), is) in
     (rest.0, ((suc (rest.1).0, omega (arith, (rest.1).1), (rest.1).2)), rest.2)
 
--- with as many pairs as slots, each slot has one
+-- with as many pairs as slots, they are of just these
+pub all_first : (done : List ℕ) (moved : List Moved) → AreOfFirst done moved → length done ≤ length moved
+    → old_slots moved ≡ done
+all_first done moved first all = first ∙ take_all (length moved) done all
+
+-- and each slot has one
 pub pair_for : (done : List ℕ) (moved : List Moved) (n : ℕ) → AreOfFirst done moved → length done ≤ length moved
     → Contains done n → (m : Moved) × Contains moved m × (m.old ≡ n)
 pair_for done moved n first all among = pair_of moved n
-    (subst (λ (l : List ℕ). Contains l n) (sym (first ∙ take_all (length moved) done all)) among)
+    (subst (λ (l : List ℕ). Contains l n) (sym (all_first done moved first all)) among)
 
 -- the document that stands in the slot of a pair, and the one that it names in the target, are the same
 pub stands_there : {s t : DeviceState} {old new : ℕ} → HoldSame s t old new → (d : Document) → old ≡ d.slot

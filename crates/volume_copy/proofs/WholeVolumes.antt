@@ -235,7 +235,7 @@ module _ {old a b new : DeviceState} {report : AuditReport} (r : Ready) (audits 
         (subst (λ (i : Image). IsHorizon r.volume.geometry a.image i r.horizon) (sym same_new)
         (settles.ends.1 (tells_a tells)).horizon)
 
-  -- a slot that was done at entry lies below the horizon, whoever else writes: what was sound has each slot below it taken
+  -- a slot that was done at entry lies below the horizon, whoever else writes: each one below it was taken by then
   lies_below : IsTrue old.tells → (n : ℕ) → IsDoneSlot r.volume.geometry old.image n → n < r.horizon
   lies_below tells n done = ⊎_elim
       (λ (same : n ≡ r.horizon). absurd (none-some _
@@ -243,7 +243,8 @@ module _ {old a b new : DeviceState} {report : AuditReport} (r : Ready) (audits 
       ∙ later (reserve_at n) taken.found taken.stands)))
       (λ (differ : (n < r.horizon) ⊎ (r.horizon < n)). ⊎_elim (λ less. less)
       (λ above. absurd (let w = taken_below r.volume.geometry was.0 settled_was n reserves.slot taken r.horizon above in
-      none-some _ (sym (horizon_a.free (omega (arith, above, reserves.slot))) ∙ later (reserve_at r.horizon) w.found w.stands)))
+      none-some _
+      (sym (horizon_a.free (omega (arith, above, reserves.slot))) ∙ later (reserve_at r.horizon) w.found w.stands)))
       differ)
       (cases_order n r.horizon)
     where
@@ -303,6 +304,7 @@ module _ {old a b new : DeviceState} {report : AuditReport} (r : Ready) (audits 
           omega (arith, low, settles.ends.0.horizon);
       is_volume = volume_new;
       done = λ tells place less. (walk.1 (tells_b tells)).done _ (among place less);
+      rise = walk.0.rise;
       all = all;
       whole = whole;
       settles = settles_as;

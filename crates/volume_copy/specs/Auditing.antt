@@ -16,7 +16,7 @@ use Rattle.command_laws.specs.WholeLogs.{HasSteadyVolume}
 use Rattle.volume_audit.specs.Audits.{Audits}
 use Rattle.volume_audit.specs.declared.report.AuditReport.{AuditReport}
 use Rattle.volume_copy.specs.Pairs.{slots_of}
-use Rattle.volume_copy.specs.Reading.{ReadingFails}
+use Rattle.volume_copy.specs.Reading.{ReadingFails, RiseFrom}
 use Rattle.volume_copy.specs.declared.audited.AuditedVolume.{AuditedVolume}
 
 -- Why a volume is not read: its audit refuses; or it was audited, and settling refuses behind it, or a look at its slots.
@@ -32,8 +32,8 @@ pub record IsWholeVolume (s : DeviceState) (done : List ℕ) : Type 0 where
   pub sure : IsUnchanged s.image s.sure
   pub slots : (documents : List Document) → AreDocuments s.cells s.image documents → slots_of documents ≡ done
 
--- A volume was audited, and is as settling makes it of a sound image. Its numbers are such ones over every device. Each slot
--- that was done at entry is among those that are gone along, whoever else writes.
+-- A volume was audited, and is as settling makes it of a sound image. Its numbers are such ones over every device. Whoever
+-- else writes, each slot that was done at entry is among those of its documents, which rise.
 pub record HasAudited (old new : DeviceState) (volume : AuditedVolume) : Type 0 where
   pub called : Called old new
   pub version : volume.volume.version ≡ volume.volume.geometry.version
@@ -44,6 +44,7 @@ pub record HasAudited (old new : DeviceState) (volume : AuditedVolume) : Type 0 
   pub is_volume : IsTrue old.tells → IsVolume new.cells new.image volume.volume.geometry
   pub done : IsTrue old.tells → (place : ℕ) → place < length volume.done.items
       → IsDoneSlot volume.volume.geometry new.image (slice_index volume.done.items place)
+  pub rise : RiseFrom 0 volume.done.items
   pub all : IsTrue old.tells → (n : ℕ) → IsDoneSlot volume.volume.geometry old.image n → Contains volume.done.items n
   pub whole : IsTrue old.tells → IsStill old.foreign_writes new.foreign_writes → IsWholeVolume new volume.done.items
   pub settles : IsTrue old.tells → IsStill old.foreign_writes new.foreign_writes → (sound : Sound old.cells old.image)

@@ -25,7 +25,7 @@ use Rattle.volume_copy.specs.Auditing.{RefusesVolume}
 use Rattle.volume_copy.specs.Alone.{AreAlone}
 use Rattle.volume_copy.specs.Completing.{EndsUnhindered, IsCopyUnhindered}
 use Rattle.volume_copy.specs.First.{HoldsFirst, IsSourceImage}
-use Rattle.volume_copy.specs.Pairs.{AgreeSoFar, AnsweredHold, ArePairs, IsNextToCopy, LeavesNoneOut, SaysSame}
+use Rattle.volume_copy.specs.Pairs.{AgreeSoFar, AnsweredHold, AnsweredRise, ArePairs, IsNextToCopy, LeavesNoneOut, SaysSame}
 use Rattle.volume_copy.specs.Staying.{IsHeldThroughout, IsSoundThroughout}
 use Rattle.volume_copy.specs.declared.moved.Moved.{Moved}
 
@@ -185,8 +185,8 @@ IsFirstThroughout from from' to to' =
 -- What it means that a volume is copied, or why it is not. Where nobody else writes, what a crash leaves of the source or of
 -- the target, from a steady device on, is blank or sound at each moment; the source holds the documents that it held; and
 -- the target holds the first ones of the source, so that a copy that was stopped is run again. Whoever else writes, the
--- documents of each pair that is answered stand on both devices and say the same, and each document that stood in the source
--- at entry has its pair. A target that is another volume or has
+-- documents of each pair that is answered stand on both devices and say the same; each document that stood in the source at
+-- entry has its pair; and the pairs are in order, each of another slot of the source. A target that is another volume or has
 -- other documents keeps just those that it held. A copy that nothing hinders is done, or refused for want of memory or of
 -- room.
 pub record Copies (slots lists : ℕ) (from from' to to' : DeviceState) (result : Result (Vec Moved) CopyRefusal) : Type 0
@@ -198,6 +198,7 @@ pub record Copies (slots lists : ℕ) (from from' to to' : DeviceState) (result 
     pub to_first : IsFirstThroughout from from' to to'
     pub same : AnsweredHold from from' to to' result
     pub left_out : LeavesNoneOut from to to' result
+    pub in_order : AnsweredRise result
     pub untouched : IsOfTarget result → IsHeldThroughout to to'
     pub complete : IsCopyUnhindered from from' to to' → EndsUnhindered result
     pub ends : CopyEnds slots lists from from' to to' result

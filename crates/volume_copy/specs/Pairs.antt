@@ -9,6 +9,7 @@ use Rattle.volume_meaning.specs.Slots.{IsStampOf}
 use Rattle.volume_meaning.specs.Volumes.{IsVolume}
 use Rattle.tamper_rules.specs.Settling.{Settled}
 use Rattle.worm_device.specs.State.{DeviceState}
+use Rattle.volume_copy.specs.Reading.{RiseFrom}
 use Rattle.volume_copy.specs.declared.moved.Moved.{Moved}
 
 -- the slots of documents
@@ -83,8 +84,14 @@ pub record HasItsPair (to to' : DeviceState) (moved : List Moved) (d : Document)
 -- Where the source tells, each document that stood there at entry has its pair, whoever else writes: none is left out.
 abbrev pub LeavesNoneOut : DeviceState → DeviceState → DeviceState → Result (Vec Moved) CopyRefusal → Type 0
 LeavesNoneOut from to to' (Ok moved) =
-    IsTrue from.tells → (d : Document) → Stands from.cells from.image d.slot d.id d.body → HasItsPair to to' moved.items d
+    IsTrue from.tells → (d : Document) → Stands from.cells from.image d.slot d.id d.body
+    → HasItsPair to to' moved.items d
 LeavesNoneOut from to to' (Err refusal) = ⊤
+
+-- The pairs that are answered are in order, and none names a slot of the source that another names, whoever writes.
+abbrev pub AnsweredRise : Result (Vec Moved) CopyRefusal → Type 0
+AnsweredRise (Ok moved) = RiseFrom 0 (old_slots moved.items)
+AnsweredRise (Err refusal) = ⊤
 
 -- Two devices hold volumes, and as many first documents of the one as there are pairs say the same as the first ones of
 -- the other.

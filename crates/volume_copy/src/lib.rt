@@ -17,9 +17,9 @@
 //! has grown since.
 //!
 //! **What is promised**: whatever somebody else writes, a refusal names its cause on the device that it comes from, and the
-//! documents of each pair that is answered stand on both devices and say the same (`HoldSame`); a copy that ends well has a
-//! pair for each document that stood in the source at the beginning (`LeavesNoneOut`). Where nobody else writes, a copy that
-//! ends well leaves a settled target, all of it sure, with just the documents of the source in order; and each
+//! documents of each pair that is answered stand on both devices and say the same (`HoldSame`); a copy that ends well has
+//! a pair for each document that stood in the source at the beginning (`LeavesNoneOut`). Where nobody else writes, one
+//! that ends well leaves a settled target, all of it sure, with just the documents of the source in order; and each
 //! document that was kept in the source at the beginning is kept there (`HasCopied`). An ingest is refused only behind
 //! pairs that agree, and of the next document (`IsNextToCopy`). Whatever a crash
 //! leaves of either device is blank or sound, at each moment and at every answer (`IsSoundThroughout`), and what it leaves
