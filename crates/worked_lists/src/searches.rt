@@ -58,15 +58,6 @@ fn finds(device: &mut MemoryDevice, list: List, asked: u32, key: u32) -> bool {
     }
 }
 
-/// Whether a key is found as its own, or this cell is named where it is looked for.
-pub fn is_found_or_named(device: &mut MemoryDevice, list: List, key: u32, named: u32) -> bool {
-    match find(device, list, key) {
-        Answer::Entry(entry) => entry.key == key,
-        Answer::Fault(Fault::Tampered(evidence)) => evidence.cell == named,
-        _ => false,
-    }
-}
-
 /// How many entries the list has, each asked for by the key before plus one.
 pub fn scan(device: &mut MemoryDevice, list: List) -> Answer {
     if !list.is_within(device.cells()) {

@@ -3,7 +3,7 @@
 use crate::answer::Answer;
 use crate::growing::{Growing, STEP, Unplanned, plan_keys};
 use crate::laying::{jump, posting, put, put_planned};
-use crate::searches::{List, are_found_or_named, is_found_or_named};
+use crate::searches::{List, are_found_or_named};
 use cell_types::{Cell, Fault};
 use std::alloc::{AllocError, Global};
 use worm_memory::MemoryDevice;
@@ -107,6 +107,7 @@ pub fn try_insertions(
     number: u32,
     is_of_spans: bool,
 ) -> Result<Answer, AllocError> {
+    let keys = looked_up(alloc, growing.keys, number)?;
     let mut named: u32 = 0;
     let mut is_passed = false;
     for place in 0..256 {
@@ -118,7 +119,7 @@ pub fn try_insertions(
         };
         let Some(key) = key else { continue };
         for value in forged.cells(at).into_iter().flatten() {
-            match try_insertion(alloc, device, growing, number, at, value, key)? {
+            match try_insertion(alloc, device, growing, keys.as_slice(), at, value, key)? {
                 Outcome::Taken => {}
                 Outcome::Named => named = named.saturating_add(1),
                 Outcome::Passed => is_passed = true,
@@ -166,7 +167,7 @@ fn try_insertion(
     alloc: Global,
     device: &mut MemoryDevice,
     growing: &Growing,
-    number: u32,
+    looked_up: &[u32],
     at: u32,
     value: Cell,
     key: u32,
@@ -179,7 +180,7 @@ fn try_insertion(
             let mut list = growing.list;
             list.bounds.edge = planned.pool.next;
             let is_written = put_planned(device, planned.cells.as_slice())?;
-            if is_written && hides_no_key(device, list, growing.keys, number, at) {
+            if is_written && are_found_or_named(device, list, looked_up, at) {
                 Outcome::Passed
             } else {
                 Outcome::Hides
@@ -192,20 +193,16 @@ fn try_insertion(
     Ok(outcome)
 }
 
-/// Whether each key that is looked up is found, or the cell is named.
-fn hides_no_key(device: &mut MemoryDevice, list: List, keys: u32, number: u32, at: u32) -> bool {
+/// The keys that are looked up where somebody wrote into a block: each of that block, and the first and the last of
+/// each other one. All of them behind each insertion would take some minutes.
+fn looked_up(alloc: Global, keys: u32, number: u32) -> Result<Vec<u32>, AllocError> {
+    let mut all = Vec::new(alloc);
     for slot in 0..keys {
-        let is_due = is_looked_up(slot, number) || slot == keys - 1;
-        if is_due && !is_found_or_named(device, list, slot.saturating_mul(STEP), at) {
-            return false;
+        let place = slot % BLOCK_KEYS;
+        let is_at_end = place == 0 || place == BLOCK_KEYS - 1 || slot == keys - 1;
+        if slot / BLOCK_KEYS == number || is_at_end {
+            all.push(slot.saturating_mul(STEP))?;
         }
     }
-    true
-}
-
-/// Whether a key is looked up where somebody wrote into a block: each of that block is, and the first and the last of
-/// each other one. All of them behind each insertion would take some minutes.
-fn is_looked_up(slot: u32, number: u32) -> bool {
-    let place = slot % BLOCK_KEYS;
-    slot / BLOCK_KEYS == number || place == 0 || place == BLOCK_KEYS - 1
+    Ok(all)
 }
