@@ -1,10 +1,8 @@
 //! A command, carried out by the words that ask for it.
-use crate::fault::Fault;
-use crate::opening::{FileNumber, device_over, hold_both, open};
-use crate::terminal::Terminal;
 use cell_types::{CopyRefusal, Refusal};
 use host_files::Hold;
 use host_ports::{Sink, Source, StdSink, put_all};
+use program_host::{Fault, FileNumber, Terminal, device_over, hold_both, open};
 use record_top::{run, run_over_file, run_two_over_files};
 use std::io::{Seek, Stderr};
 use std::os::unix::fs::FileExt;

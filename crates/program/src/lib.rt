@@ -1,4 +1,4 @@
-//! What the program does with its words, its files and its ports, and how it ends. A program is a few lines over it: it
+//! What the program does with its words, its files and its ports. A program is a few lines over it: it
 //! hands in its own words, what its commands take their input from, and where their output goes.
 //!
 //! The first word names a device, the others ask for a command. With the words `volume.img`, `find` and `hello`
@@ -14,16 +14,10 @@
 //! No clause says what a file of the operating system holds, nor so what the program does to it: that is said of `run` and
 //! `run_two` over any file, and shown here by the transcript of `worked_files`, which the gate compares.
 //!
-//! Stands on `record_top`, which carries commands out, and on `host_files`. Begin with `carrying.rt`.
+//! Stands on `record_top`, which carries commands out, and on `program_host`, which opens files and has the fault that the
+//! program ends with.
 #![tactic(auto)]
 
-mod arguments;
 mod carrying;
-mod fault;
-mod opening;
-mod terminal;
-mod waiting;
 
-pub use arguments::words;
 pub use carrying::carry_out;
-pub use fault::Fault;

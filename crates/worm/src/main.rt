@@ -35,7 +35,8 @@
 
 use host_files::Hold;
 use host_ports::{StdSink, StdSource};
-use program::{Fault, carry_out, words};
+use program::carry_out;
+use program_host::{Fault, words};
 use std::io::{self, Seek, Stderr};
 use std::os::unix::fs::FileExt;
 use std::process::ExitCode;

@@ -1,0 +1,19 @@
+//! What the program has of the host: its words, the files that it opens as devices, the line on a terminal that says how far
+//! a command is, and the fault that it ends with, as a line and a status.
+//!
+//! Nothing here knows what a command does. No clause says what a file of the operating system holds.
+//!
+//! Stands on `host_files`, which has the devices over files. Begin with `opening.rt`.
+#![tactic(auto)]
+
+mod arguments;
+mod fault;
+mod opening;
+mod terminal;
+mod waiting;
+
+pub use arguments::words;
+pub use fault::Fault;
+pub use opening::{FileNumber, HeldFile, device_over, hold_both, open};
+pub use terminal::Terminal;
+pub use waiting::WaitingFile;
