@@ -21,6 +21,8 @@
 //! Begin with `cells.rt`.
 #![tactic(auto)]
 
+use cell_types::memory;
+
 mod cells;
 mod devices;
 mod files;

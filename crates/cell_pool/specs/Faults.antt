@@ -8,4 +8,4 @@ use Rattle.cell_pool.specs.declared.fault.GrowthFault.TheVariants.{Fault, NoMemo
 -- as a command refuses
 abbrev pub refusal_of_growth : GrowthFault → Refusal
 refusal_of_growth (Fault fault) = refusal_of_fault fault
-refusal_of_growth NoMemory = refusals.NoMemory
+refusal_of_growth (NoMemory lack) = refusals.NoMemory

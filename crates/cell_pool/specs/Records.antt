@@ -19,7 +19,7 @@ pub record HoldsPlanned (at : ℕ) (r : RecordCell) (owner : Owner) (old new : V
 abbrev pub PlanRecordEnds : ℕ → RecordCell → Owner → ViewState → ViewState → Result Unit PlanFault → Type 0
 PlanRecordEnds at r owner old new (Ok done) = HoldsPlanned at r owner old new
 PlanRecordEnds at r owner old new (Err Taken) = (old.planned at ≡ None → ⊥) × PlansNoMore old new
-PlanRecordEnds at r owner old new (Err NoMemory) = PlansNoMore old new
+PlanRecordEnds at r owner old new (Err (NoMemory lack)) = PlansNoMore old new
 
 -- Planning the cell of one record: what stands below, and what is planned in other cells, is as it was.
 pub record PlansRecord (at : ℕ) (r : RecordCell) (owner : Owner) (old new : ViewState) (result : Result Unit PlanFault)

@@ -11,7 +11,7 @@ pub enum GrowthFault {
     /// A call of the device failed, or a written cell breaks a rule.
     Fault(Fault),
     /// No memory was to be had.
-    NoMemory,
+    NoMemory(NoMemory),
 }
 
 impl From<Fault> for GrowthFault {
@@ -23,10 +23,10 @@ impl From<Fault> for GrowthFault {
 }
 
 impl From<NoMemory> for GrowthFault {
-    ghost from_gives = { λ _ result. result ≡ growth.NoMemory };
+    ghost from_gives = { λ lack result. result ≡ growth.NoMemory lack };
 
-    fn from(_: NoMemory) -> GrowthFault {
-        GrowthFault::NoMemory
+    fn from(lack: NoMemory) -> GrowthFault {
+        GrowthFault::NoMemory(lack)
     }
 }
 
@@ -36,7 +36,7 @@ impl From<GrowthFault> for Refusal {
     fn from(fault: GrowthFault) -> Refusal {
         match fault {
             GrowthFault::Fault(fault) => Refusal::from(fault),
-            GrowthFault::NoMemory => Refusal::NoMemory,
+            GrowthFault::NoMemory(lack) => Refusal::from(lack),
         }
     }
 }

@@ -7,7 +7,7 @@ ghost use Rattle.cell_types.specs.Records.{IsWellFormed};
 ghost use Rattle.worm_device.specs.Overlays.{of_overlay};
 ghost use Rattle.cell_pool.specs.Records.{PlansRecord};
 
-use cell_types::{RecordCell, encode};
+use cell_types::{NoMemory, RecordCell, encode};
 use worm_device::{OVERLAY_CELLS, Overlay, Owner, View};
 
 /// Why a cell is not planned. Nothing has changed then.
@@ -16,7 +16,7 @@ pub enum PlanFault {
     /// It is planned already.
     Taken,
     /// No memory was to be had.
-    NoMemory,
+    NoMemory(NoMemory),
 }
 
 /// Plans the cell of a record, unless one is planned there already.
@@ -35,6 +35,6 @@ pub fn plan_record<V: View>(
     }
     match overlay.plan(at, encode(value, at), owner) {
         Ok(()) => Ok(()),
-        Err(_) => Err(PlanFault::NoMemory),
+        Err(lack) => Err(PlanFault::NoMemory(lack)),
     }
 }

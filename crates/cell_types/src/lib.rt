@@ -24,6 +24,7 @@ mod codec;
 mod content_cell;
 mod geometry;
 mod held_bytes;
+pub mod memory;
 mod record_cell;
 mod refusal;
 

@@ -1,11 +1,11 @@
 //! Why a call gives no answer.
-ghost use Rattle.std.specs.Prelude.{◌≡◌, ⊤};
+ghost use Rattle.std.specs.Prelude.{◌≡◌};
 ghost use Rattle.cell_types.specs.Refusals.{refusal_of_fault, status_of, status_of_copy};
+ghost use Rattle.cell_types.specs.declared.refusal.CopyRefusal.TheVariants as copies;
 ghost use Rattle.cell_types.specs.declared.refusal.Fault.TheVariants as faults;
 ghost use Rattle.cell_types.specs.declared.refusal.Refusal.TheVariants as refusals;
 
 use crate::Cell;
-use std::alloc::AllocError;
 use std::fmt;
 use thiserror::Error;
 
@@ -41,17 +41,10 @@ pub fn breach(rule: u8, cell: u32, found: Cell) -> Fault
     Fault::Tampered(Evidence { rule, cell, found })
 }
 
-/// No memory was to be had.
+/// No memory was to be had. Only the calls of `memory` make one.
 #[derive(Clone, Copy, Debug, PartialEq, Eq)]
+#[non_exhaustive]
 pub struct NoMemory;
-
-impl From<AllocError> for NoMemory {
-    ghost from_gives = { λ _ _. ⊤ };
-
-    fn from(_: AllocError) -> NoMemory {
-        NoMemory
-    }
-}
 
 /// Why a command gives no answer. Prints as the line that a program shows for it.
 #[derive(Clone, Copy, PartialEq, Eq, Error)]
@@ -98,8 +91,9 @@ pub enum Refusal {
     /// A call of the sink failed.
     #[error("sink fault")]
     SinkFault,
-    /// No memory was to be had.
+    /// No memory was to be had. It comes of a `NoMemory` alone.
     #[error("out of memory")]
+    #[non_exhaustive]
     NoMemory,
     /// Cell 0 is blank.
     #[error("not formatted")]
@@ -151,8 +145,9 @@ pub enum CopyRefusal {
     /// The words are no copy.
     #[error("{}", Refusal::Usage)]
     Usage,
-    /// No memory was to be had.
+    /// No memory was to be had. It comes of a `NoMemory` alone.
     #[error("{}", Refusal::NoMemory)]
+    #[non_exhaustive]
     NoMemory,
     /// A call of the sink failed.
     #[error("{}", Refusal::SinkFault)]
@@ -187,19 +182,19 @@ impl fmt::Debug for CopyRefusal {
     }
 }
 
-impl From<AllocError> for Refusal {
-    ghost from_gives = { λ _ refusal. refusal ≡ refusals.NoMemory };
-
-    fn from(_: AllocError) -> Refusal {
-        Refusal::NoMemory
-    }
-}
-
 impl From<NoMemory> for Refusal {
     ghost from_gives = { λ _ refusal. refusal ≡ refusals.NoMemory };
 
     fn from(_: NoMemory) -> Refusal {
         Refusal::NoMemory
+    }
+}
+
+impl From<NoMemory> for CopyRefusal {
+    ghost from_gives = { λ _ refusal. refusal ≡ copies.NoMemory };
+
+    fn from(_: NoMemory) -> CopyRefusal {
+        CopyRefusal::NoMemory
     }
 }
 
@@ -215,6 +210,13 @@ impl From<Fault> for Refusal {
 }
 
 impl Refusal {
+    /// What lacked, of a refusal that says so.
+    pub fn lack(&self) -> NoMemory
+        requires { self.now ≡ refusals.NoMemory }
+    {
+        NoMemory
+    }
+
     /// The status that a program ends with, 1 to 11.
     pub fn status(&self) -> u8
         ensures { result ≡ status_of self.now }

@@ -5,10 +5,9 @@ ghost use Rattle.host_ports.specs.Sinks.{Gets, PutsPart};
 ghost use Rattle.command_line.specs.Lines.{count_line, document_line, slot_line};
 
 use arrayvec::ArrayString;
-use cell_types::Refusal;
+use cell_types::{NoMemory, Refusal, memory};
 use host_ports::{Failed, Sink, put_all};
 use itoa::Buffer;
-use std::alloc::AllocError;
 
 /// How many bytes a line may have that tells of a slot.
 const LINE_BYTES: usize = 64;
@@ -70,23 +69,23 @@ pub fn push_document_line(
     slot: u32,
     identifier: &[u8],
     bytes: u32,
-) -> Result<(), AllocError>
+) -> Result<(), NoMemory>
     ensures { OnOk result (text.new.items ≡ text.old.items ++ document_line slot identifier.now bytes) }
 {
     let mut digits = Buffer::new();
-    text.extend_from_slice(digits.format(slot).as_bytes())?;
-    text.extend_from_slice(b" ")?;
-    text.extend_from_slice(identifier)?;
-    text.extend_from_slice(b" ")?;
-    text.extend_from_slice(digits.format(bytes).as_bytes())?;
-    text.extend_from_slice(b"\n")
+    memory::extend_from_slice(text, digits.format(slot).as_bytes())?;
+    memory::extend_from_slice(text, b" ")?;
+    memory::extend_from_slice(text, identifier)?;
+    memory::extend_from_slice(text, b" ")?;
+    memory::extend_from_slice(text, digits.format(bytes).as_bytes())?;
+    memory::extend_from_slice(text, b"\n")
 }
 
 /// Puts the line that says how many were found behind the text.
-pub fn push_count_line(text: &mut Vec<u8>, count: usize) -> Result<(), AllocError>
+pub fn push_count_line(text: &mut Vec<u8>, count: usize) -> Result<(), NoMemory>
     ensures { OnOk result (text.new.items ≡ text.old.items ++ count_line count) }
 {
     let mut digits = Buffer::new();
-    text.extend_from_slice(digits.format(count).as_bytes())?;
-    text.extend_from_slice(b" found\n")
+    memory::extend_from_slice(text, digits.format(count).as_bytes())?;
+    memory::extend_from_slice(text, b" found\n")
 }

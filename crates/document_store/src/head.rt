@@ -9,7 +9,8 @@ ghost use Rattle.document_store.specs.declared.head.TheConstants.{FRONT_BYTES};
 use crate::identifier::is_identifier;
 use crate::text::Text;
 use append_file::{ContentFault, Position, read_byte};
-use std::alloc::{AllocError, Global};
+use cell_types::{NoMemory, memory};
+use std::alloc::Global;
 use volume_meaning::{MAX_BODY_BYTES, MAX_IDENTIFIER_BYTES};
 use worm_device::View;
 
@@ -134,11 +135,11 @@ pub fn read_document<V: View>(view: &mut V, start: u32, bytes: u32) -> Result<He
 }
 
 /// The identifier of a document, by its head.
-pub fn identifier_of_head(alloc: Global, head: &Head) -> Result<Text, AllocError>
+pub fn identifier_of_head(alloc: Global, head: &Head) -> Result<Text, NoMemory>
     requires { head.now.id_length ≤ length head.now.id }
     ensures { IfOk result (λ text. text ≡ id_of head.now) }
 {
     let mut bytes = Vec::new(alloc);
-    bytes.extend_from_slice(&head.id[..usize::from(head.id_length)])?;
+    memory::extend_from_slice(&mut bytes, &head.id[..usize::from(head.id_length)])?;
     Ok(Text::new(bytes))
 }

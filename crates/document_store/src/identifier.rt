@@ -6,7 +6,7 @@ ghost use Rattle.worm_device.specs.Views.{Viewed};
 ghost use Rattle.document_store.specs.Looks.{IdentifierEnds, IsPartOf, IsStated, ReadsOnce, SameEnds};
 
 use crate::part::{Part, done_head, done_part, read_part};
-use cell_types::{Fault, Geometry, Refusal, Volume};
+use cell_types::{Fault, Geometry, Refusal, Volume, memory};
 use std::alloc::Global;
 use volume_meaning::MAX_IDENTIFIER_BYTES;
 use worm_device::View;
@@ -38,7 +38,7 @@ pub fn identifier_of<V: View>(
 {
     let head = done_head(view, volume, slot)?;
     let mut id = Vec::new(alloc);
-    id.extend_from_slice(&head.id[..usize::from(head.id_length)])?;
+    memory::extend_from_slice(&mut id, &head.id[..usize::from(head.id_length)])?;
     Ok(id)
 }
 

@@ -195,7 +195,7 @@ module _ (g : Layout) (level : Level) (place : Open) (slot : ℕ) (pool : Pool) 
       (named : GrowthFault) → level.led_by ≡ led → BlamesChild led fault named
       → PlansRecord (blank_of place) r owner old new (Err fault)
       → InsertsEntry g level place slot pool pool old new (Err named)
-  refused r owner new child NoMemory named led is plans =
+  refused r owner new child (NoMemory lack) named led is plans =
       subst (λ (n : GrowthFault). InsertsEntry g level place slot pool pool old new (Err n)) (sym is)
       (record {
         cells = plans.cells;

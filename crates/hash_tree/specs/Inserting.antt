@@ -105,7 +105,7 @@ InsertEntryEnds g level place slot pool rest old new (Ok at) =
 InsertEntryEnds g level place slot pool rest old new (Err (Fault Failed)) = ⊥
 InsertEntryEnds g level place slot pool rest old new (Err (Fault (Tampered e))) =
     IsPlaceTaken g level place old e × (rest ≡ pool) × PlansNoMore old new
-InsertEntryEnds g level place slot pool rest old new (Err NoMemory) = rest ≡ pool
+InsertEntryEnds g level place slot pool rest old new (Err (NoMemory lack)) = rest ≡ pool
 
 -- Inserting a slot's entry where the path of a digest ends.
 pub record InsertsEntry (g : Layout) (level : Level) (place : Open) (slot : ℕ) (pool rest : Pool) (old new : ViewState)

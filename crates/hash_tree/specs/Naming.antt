@@ -10,7 +10,7 @@ use Rattle.hash_tree.specs.declared.level.ChildCell.{ChildCell}
 
 -- a taken cell is blamed on the child cell that led to its node: the root's cells are nobody else's
 abbrev pub BlamesChild : Option ChildCell → PlanFault → GrowthFault → Type 0
-BlamesChild led NoMemory named = named ≡ growth.NoMemory
+BlamesChild led (NoMemory lack) named = named ≡ growth.NoMemory lack
 BlamesChild None Taken named = ⊥
 BlamesChild (Some child) Taken named =
     named ≡ growth.Fault (Tampered (record { rule = LOST_CHILD; cell = child.cell; found = child.found }))

@@ -95,7 +95,7 @@ pub fn insert<V: View>(
     };
     match plan_record(overlay, bucket, entry, below) {
         Ok(()) => {}
-        Err(PlanFault::NoMemory) => return Err(GrowthFault::NoMemory),
+        Err(PlanFault::NoMemory(lack)) => return Err(GrowthFault::NoMemory(lack)),
         // Nothing is planned in the cells that are free.
         Err(PlanFault::Taken) => unreachable!(),
     }
@@ -121,7 +121,7 @@ fn refusal(fault: PlanFault, led_by: &Option<ChildCell>) -> GrowthFault
     ensures { BlamesChild led_by.now fault result }
 {
     match fault {
-        PlanFault::NoMemory => GrowthFault::NoMemory,
+        PlanFault::NoMemory(lack) => GrowthFault::NoMemory(lack),
         PlanFault::Taken => {
             let Some(child) = led_by else { unreachable!() };
             GrowthFault::Fault(breach(LOST_CHILD, child.cell, child.found))

@@ -6,7 +6,7 @@ ghost use Rattle.host_files.specs.File.{patched};
 ghost use Rattle.host_files.specs.Memory.{held_after_all, all_sure};
 
 use crate::{FileChange, Leaving};
-use cell_types::NoMemory;
+use cell_types::{NoMemory, memory};
 use worm_device::Failed;
 
 /// What is in a slice of bytes is bytes.
@@ -67,11 +67,8 @@ impl MemoryFile {
         ensures room { IfOk result (λ file. changes ≤ file_room file) }
         ensures stands { IfOk result (λ file. (cells : ℕ) → SureStands cells (memory_file_state file).told) }
     {
-        let Ok(first) = bytes.clone() else {
-            return Err(NoMemory);
-        };
-        let mut room = Vec::new(*bytes.allocator());
-        room.reserve(changes as usize).map_err(|_| NoMemory)?;
+        let first = memory::from_slice(*bytes.allocator(), &bytes)?;
+        let room = memory::with_capacity(*bytes.allocator(), changes as usize)?;
         are_bytes(&bytes);
         Ok(MemoryFile {
             first,

@@ -15,7 +15,7 @@ ghost use Rattle.host_files.specs.Pages.{PageHolds, ArePagesApart};
 
 use crate::HostFile;
 use crate::page::{PAGE_BYTES, PAGE_CELLS, cell_at, cells_on_page, copy_cells, put_at};
-use cell_types::{Cell, NoMemory};
+use cell_types::{Cell, NoMemory, memory};
 use std::alloc::Global;
 use worm_device::Failed;
 
@@ -77,9 +77,7 @@ impl Pages {
             used: 0,
             bytes: [0; PAGE_BYTES],
         };
-        let Ok(pages) = vec![in alloc; room; PAGES] else {
-            return Err(NoMemory);
-        };
+        let pages = memory::repeated(alloc, room, PAGES)?;
         Ok(Pages {
             pages,
             uses: 0,

@@ -7,7 +7,7 @@ ghost use Rattle.host_ports.specs.Sources.{Takes};
 
 use crate::schedule::Schedule;
 use crate::{Failed, Sink, Source};
-use cell_types::NoMemory;
+use cell_types::{NoMemory, memory};
 use std::alloc::Global;
 use std::marker::Model;
 
@@ -137,10 +137,7 @@ impl MemorySink {
         ensures only { self.new ≡ record self.old { room = self.new.room } }
         ensures unchanged { OnErr result (self.new ≡ self.old) }
     {
-        match self.bytes.reserve(bytes as usize) {
-            Ok(()) => Ok(()),
-            Err(_) => Err(NoMemory),
-        }
+        memory::reserve(&mut self.bytes, bytes as usize)
     }
 }
 

@@ -7,7 +7,7 @@ ghost use Rattle.hostile_replay.specs.Turns.{CrashAnswers};
 ghost use Rattle.hostile_replay.specs.Plays.{Plays};
 ghost use Rattle.hostile_replay.specs.Sinks.{reply_of_foreign};
 
-use cell_types::{Cell, NoMemory};
+use cell_types::{Cell, NoMemory, memory};
 use script_replies::{Reply, begin_by_hand};
 use worm_device::Written;
 use worm_memory::MemoryDevice;
@@ -20,7 +20,7 @@ pub fn play_foreign(at: u32, cell: Cell, device: &mut MemoryDevice) -> Result<Re
 {
     begin_by_hand(device)?;
     let Ok(written) = device.foreign(at, cell) else {
-        return Err(NoMemory);
+        return Err(memory::lacked_elsewhere());
     };
     Ok(reply_of_foreign(written))
 }
@@ -43,6 +43,6 @@ pub fn play_crash(keep: &[u32], device: &mut MemoryDevice) -> Result<Reply, NoMe
     begin_by_hand(device)?;
     match device.crash(keep) {
         Ok(crash) => Ok(Reply::Crashed(crash)),
-        Err(_) => Err(NoMemory),
+        Err(_) => Err(memory::lacked_elsewhere()),
     }
 }

@@ -7,7 +7,7 @@ ghost use Rattle.script_replies.specs.declared.beginning.TheConstants.{MAX_REPLA
 ghost use Rattle.hostile_replay.specs.Plays.{Plays};
 ghost use Rattle.hostile_replay.specs.Sinks.{without_sink};
 
-use cell_types::{NoMemory, Refusal};
+use cell_types::{NoMemory, Refusal, memory};
 use document_store::Text;
 use host_ports::MemorySink;
 use record_query::{find, lookup_into};
@@ -57,9 +57,7 @@ pub fn play_lookup(
     match lookup_into(device, id.bytes(), &mut sink) {
         Ok(found) => {
             let mut body = Vec::new(alloc);
-            let Ok(()) = body.extend_from_slice(sink.bytes()) else {
-                return Err(NoMemory);
-            };
+            memory::extend_from_slice(&mut body, sink.bytes())?;
             Ok(Reply::Body {
                 slot: found.slot,
                 body: Text::new(body),
@@ -74,7 +72,7 @@ fn without_sink(refusal: Refusal) -> Refusal
     ensures { result ≡ without_sink refusal }
 {
     match refusal {
-        Refusal::SinkFault => Refusal::NoMemory,
+        Refusal::SinkFault => Refusal::from(memory::lacked_elsewhere()),
         other => other,
     }
 }

@@ -10,7 +10,7 @@ ghost use Rattle.hostile_replay.specs.Plays.{Plays};
 use crate::by_hand::{play_crash, play_foreign};
 use crate::commands::{play_audit, play_format, play_ingest, play_recover};
 use crate::queries::{play_find, play_lookup};
-use cell_types::NoMemory;
+use cell_types::{NoMemory, memory};
 use script_events::Event;
 use script_replies::Reply;
 use std::alloc::Global;
@@ -31,13 +31,9 @@ pub fn replay(
 {
     let mut replies = Vec::new(alloc);
     for event in events {
-        let Ok(reply) = play(alloc, event, device) else {
-            return Err(NoMemory);
-        };
+        let reply = play(alloc, event, device)?;
         is_device(device);
-        let Ok(()) = replies.push(reply) else {
-            return Err(NoMemory);
-        };
+        memory::push(&mut replies, reply)?;
     }
     Ok(replies)
 }

@@ -212,4 +212,4 @@ plan_refused g n edge from next rows level place old new fault view fresh indexe
       let named = h tells in
       record { view = view; fresh = indexes.fresh ∙ fresh; is = named.0; licensable = named.1 }
   why (growth.Fault faults.Failed) h = h
-  why growth.NoMemory h = tt
+  why (growth.NoMemory lack) h = tt

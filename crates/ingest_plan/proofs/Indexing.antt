@@ -344,7 +344,7 @@ row_ends g n rows level place from to old new fault nothing inserts = record {
   why (Fault faults.Failed) inserts = inserts.ends
   why (Fault (faults.Tampered e)) inserts = λ tells.
       let h = inserts.ends tells in (in_list h.0.0 h.0.1 h.0.2 h.0.3, h.1 nothing)
-  why NoMemory inserts = tt
+  why (NoMemory lack) inserts = tt
 
 -- the postings were inserted, and then the bucket was planned or refused
 pub entry_ends : (g : Layout) (n : ℕ) (rows : List ListedPosting) (level : Level) (place : Open) (from next : ℕ)
@@ -375,7 +375,7 @@ entry_refused g n rows level place from next pool rest old mid new (Fault (fault
       licensable view nothing tells row.ends row.fresh entry.fresh entry.ends.2.planned entry.ends.2.owners
           (subst (λ (l : Image). Extends mid.lower l) (sym entry.lower) (extends_self mid.lower)),
     )
-entry_refused g n rows level place from next pool rest old mid new NoMemory view nothing row entry = tt
+entry_refused g n rows level place from next pool rest old mid new (NoMemory lack) view nothing row entry = tt
 
 -- the pool has given cells, or none
 pub taken_on : (g : Layout) (level : Level) (place : Open) (n at : ℕ) (pool rest : Pool) (mid new : ViewState)

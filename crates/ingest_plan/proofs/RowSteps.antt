@@ -321,4 +321,4 @@ row_refused g rows i first pool later old mid new p fault view here so inserts =
             (λ cell. ap (λ (f : Image). f cell) h.2.planned) (λ cell. ap (λ (f : ℕ → Option Owner). f cell) h.2.owners)
             inserts.lower,
       )
-  why NoMemory inserts = tt
+  why (NoMemory lack) inserts = tt

@@ -85,7 +85,7 @@ IndexEnds g n rows level place from to old new (Ok done) = IsIndexed g n rows le
 IndexEnds g n rows level place from to old new (Err (Fault Failed)) = Rose old.base.faults new.base.faults
 IndexEnds g n rows level place from to old new (Err (Fault (Tampered e))) =
     IsTrue old.base.tells → IsIndexEvidence g rows level place new e × IsLicensable g old new
-IndexEnds g n rows level place from to old new (Err NoMemory) = ⊤
+IndexEnds g n rows level place from to old new (Err (NoMemory lack)) = ⊤
 
 -- What planning the index of a document does, where the pool's next cell was this one and is that one. Where nobody else
 -- wrote, the device below stands as it did.

@@ -94,7 +94,7 @@ InsertRowEnds g rows from to old new (Err (Fault (Tampered e))) =
     IsTrue old.base.tells → ((i : ℕ) × (p : ListedPosting) × (slice_get rows i ≡ Some p)
     × ShowsBelow new (list_at g p.list) (pool_at g) p.posting.key e)
     × (((cell : ℕ) → old.planned cell ≡ None) → IsLicensable g old new)
-InsertRowEnds g rows from to old new (Err NoMemory) = ⊤
+InsertRowEnds g rows from to old new (Err (NoMemory lack)) = ⊤
 
 -- What inserting a row of postings does, where the pool's next cell was this one and is that one. Where nobody else wrote,
 -- the device below stands as it did.

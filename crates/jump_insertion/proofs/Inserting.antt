@@ -81,21 +81,7 @@ refused head floor next to low bound p old new (Fault (Tampered e)) view placed 
     placed.ends.1 tells,
   );
 }
-refused head floor next to low bound p old new NoMemory view placed = record {
-  called = placed.called;
-  cells = placed.cells;
-  fresh = placed.fresh;
-  loans = placed.loans;
-  lower = placed.lower;
-  quiet = placed.quiet;
-  ends = tt;
-}
-
--- No key is below 0. A read alone has changed nothing.
-pub never_none : (head floor next to low bound : ℕ) (p : PostingFields) (old new : ViewState)
-    → PlacesPosting head floor to head p low bound old new (Ok None)
-    → InsertsPosting head floor next to p old new (Err NoMemory)
-never_none head floor next to low bound p old new placed = record {
+refused head floor next to low bound p old new (NoMemory lack) view placed = record {
   called = placed.called;
   cells = placed.cells;
   fresh = placed.fresh;

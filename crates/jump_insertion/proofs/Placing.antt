@@ -400,7 +400,7 @@ module _ (pool : Pool) (i : Insertion) (full : Home) (to : ℕ) (old mid new : V
         λ tells. absurd (both.ends (spot_free tells) (pointer_free tells) (spot_differs tells)),
       );
     }
-    both_places (Err NoMemory) both = record {
+    both_places (Err (NoMemory lack)) both = record {
       called = called_on viewed.called both.base;
       cells = both.cells ∙ viewed.cells;
       fresh = both.fresh ∙ viewed.fresh;
@@ -523,7 +523,7 @@ place_then head floor to block p low bound old mid new viewed (Err (Fault fault)
     λ tells. viewed_then viewed (placed.ends.1 (subst IsTrue (sym viewed.called.tells) tells)),
   );
 }
-place_then head floor to block p low bound old mid new viewed (Err NoMemory) placed = record {
+place_then head floor to block p low bound old mid new viewed (Err (NoMemory lack)) placed = record {
   called = called_then viewed.called placed.called;
   cells = placed.cells ∙ viewed.cells;
   fresh = placed.fresh ∙ viewed.fresh;
@@ -547,7 +547,7 @@ refused_behind head floor to block target a b p low bound old new (Fault fault) 
   quiet = placed.quiet;
   ends = placed.ends;
 }
-refused_behind head floor to block target a b p low bound old new NoMemory placed = record {
+refused_behind head floor to block target a b p low bound old new (NoMemory lack) placed = record {
   called = placed.called;
   cells = placed.cells;
   fresh = placed.fresh;
@@ -604,7 +604,7 @@ one_refused head floor to block at p low bound old mid new owner (Fault (Tampere
     λ tells. absurd (none-some e.found (sym (free tells) ∙ put.ends.planned)),
   );
 }
-one_refused head floor to block at p low bound old mid new owner NoMemory viewed free put = record {
+one_refused head floor to block at p low bound old mid new owner (NoMemory lack) viewed free put = record {
   called = called_on viewed.called put.base;
   cells = put.cells ∙ viewed.cells;
   fresh = put.fresh ∙ viewed.fresh;

@@ -28,7 +28,7 @@ module _ (spot : Spot) (pointer : ℕ) (p : PostingFields) (owner home_owner : O
         → BothEnds spot pointer p owner home_owner old new (Err fault)
     why (Fault Failed) put = put.ends
     why (Fault (Tampered e)) put = λ free free_pointer differ. none-some e.found (sym free ∙ put.ends.planned)
-    why NoMemory put = tt
+    why (NoMemory lack) put = tt
 
   -- the pointer's was, or is the posting's
   pub second_refused : (old mid new : ViewState) (fault : GrowthFault)
@@ -48,7 +48,7 @@ module _ (spot : Spot) (pointer : ℕ) (p : PostingFields) (owner home_owner : O
     why (Fault Failed) led = led.ends
     why (Fault (Tampered e)) led = λ free free_pointer differ.
         none-some e.found (sym free_pointer ∙ sym (put.others pointer (λ same. differ (sym same))).1 ∙ led.ends.planned)
-    why NoMemory led = tt
+    why (NoMemory lack) led = tt
 
   pub both_put : (old mid new : ViewState)
       → PutsRecord (spot.block + spot.place) (posting_record p) owner old mid (Ok tt)

@@ -76,7 +76,7 @@ InsertPostingEnds head floor next to p old new (Err (Fault (Tampered e))) =
     IsTrue old.base.tells → ShowsBelow new head floor p.key e
     × (IsStill old.base.foreign_writes new.base.foreign_writes → ListBelow new floor head p.key → ⊥)
     × Viewed old new
-InsertPostingEnds head floor next to p old new (Err NoMemory) = ⊤
+InsertPostingEnds head floor next to p old new (Err (NoMemory lack)) = ⊤
 
 -- Inserting a posting, where the pool's next cell was this one and is that one. Where nobody else wrote, the device below
 -- stands as it did.

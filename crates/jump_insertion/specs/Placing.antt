@@ -35,7 +35,7 @@ PlacePostingEnds head floor to block p low bound old new (Ok None) =
     → q.key < low)
 PlacePostingEnds head floor to block p low bound old new (Err (Fault fault)) =
     HopFaultEnds head floor p.key old new fault × (IsTrue old.base.tells → Viewed old new)
-PlacePostingEnds head floor to block p low bound old new (Err NoMemory) = ⊤
+PlacePostingEnds head floor to block p low bound old new (Err (NoMemory lack)) = ⊤
 
 -- inserting a posting in or behind a block, where the pool's next cell is that one then
 pub record PlacesPosting (head floor to block : ℕ) (p : PostingFields) (low bound : ℕ) (old new : ViewState)

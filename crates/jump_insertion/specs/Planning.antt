@@ -22,7 +22,7 @@ abbrev pub PutRecordEnds : ℕ → RecordCell → Owner → ViewState → ViewSt
 PutRecordEnds at r owner old new (Ok done) = HoldsPlanned at r owner old new
 PutRecordEnds at r owner old new (Err (Fault Failed)) = ⊥
 PutRecordEnds at r owner old new (Err (Fault (Tampered e))) = WasPlanned at old e
-PutRecordEnds at r owner old new (Err NoMemory) = ⊤
+PutRecordEnds at r owner old new (Err (NoMemory lack)) = ⊤
 
 -- planning the cell of one record leaves what stands below, and what is planned in other cells
 pub record PutsRecord (at : ℕ) (r : RecordCell) (owner : Owner) (old new : ViewState) (result : Result Unit GrowthFault)
@@ -52,7 +52,7 @@ BothEnds spot pointer p owner home_owner old new (Ok None) = ⊥
 BothEnds spot pointer p owner home_owner old new (Err (Fault Failed)) = ⊥
 BothEnds spot pointer p owner home_owner old new (Err (Fault (Tampered e))) =
     old.planned (spot.block + spot.place) ≡ None → old.planned pointer ≡ None → spot.block + spot.place ≢ pointer → ⊥
-BothEnds spot pointer p owner home_owner old new (Err NoMemory) = ⊤
+BothEnds spot pointer p owner home_owner old new (Err (NoMemory lack)) = ⊤
 
 -- planning a posting and a pointer to its block leaves what stands below
 pub record PutsBoth (spot : Spot) (pointer : ℕ) (p : PostingFields) (owner home_owner : Owner) (old new : ViewState)

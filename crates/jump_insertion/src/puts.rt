@@ -28,7 +28,7 @@ fn put<V: View>(
 {
     match plan_record(overlay, at, value, owner) {
         Ok(()) => Ok(()),
-        Err(PlanFault::NoMemory) => Err(GrowthFault::NoMemory),
+        Err(PlanFault::NoMemory(lack)) => Err(GrowthFault::NoMemory(lack)),
         // A planned cell reads as planned: no view that tells its image comes here.
         Err(PlanFault::Taken) => {
             let Some(found) = overlay.planned().get(&at).copied() else {

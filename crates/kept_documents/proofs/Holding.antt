@@ -93,7 +93,7 @@ module _ (g : Layout) (n : ℕ) (id : List ℕ) (old mid : ViewState) (looked : 
       go (Ok None) ends = λ tells volume body kept.
           ends (told tells) (volume_later looked volume) body (kept_later looked kept)
       go (Err ReadFault) ends = counts.rose_later _ _ _ looked.called.faults ends
-      go (Err NoMemory) ends = tt
+      go (Err (NoMemory lack)) ends = tt
 
   -- its body was read, and the index was asked
   module _ (body : List ℕ) (holds : IsTrue old.base.tells → HoldsIdentifier g old.image n id)

@@ -118,7 +118,7 @@ module _ (g : Layout) (n : ℕ) (id body : List ℕ) (old mid : ViewState) where
         viewed = viewed_then stamped.viewed asked.viewed;
         ends = counts.rose_later _ _ _ stamped.viewed.called.faults asked.ends;
       }
-      postings_fail NoMemory asked = record { viewed = viewed_then stamped.viewed asked.viewed; ends = tt }
+      postings_fail (NoMemory lack) asked = record { viewed = viewed_then stamped.viewed asked.viewed; ends = tt }
 
       -- they don't exist, or have no trails
       pub no_trails : AsksPostings g n body stamp.seconds mid next (Ok false)

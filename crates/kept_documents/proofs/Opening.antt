@@ -55,4 +55,4 @@ module _ (g : Layout) (n : ℕ) (id : List ℕ) (old mid new : ViewState) (opene
           ends (told tells) (volume tells) body
           (kept_later opened (subst (λ (l : Layout). IsKept old.cells old.image l (document_of n id body)) same one))
       go (Err ReadFault) ends = counts.rose_later _ _ _ opened.called.faults ends
-      go (Err NoMemory) ends = tt
+      go (Err (NoMemory lack)) ends = tt

@@ -27,7 +27,7 @@ IndexedAnswer g n id body old new (Ok true) =
 IndexedAnswer g n id body old new (Ok false) =
     IsTrue old.base.tells → IsVolume old.cells old.image g → IsLedTo g old n id body → ⊥
 IndexedAnswer g n id body old new (Err ReadFault) = Rose old.base.faults new.base.faults
-IndexedAnswer g n id body old new (Err NoMemory) = ⊤
+IndexedAnswer g n id body old new (Err (NoMemory lack)) = ⊤
 
 pub record AsksIndexed (g : Layout) (n : ℕ) (id body : List ℕ) (old new : ViewState) (result : Result Bool AskFault)
     : Type 0 where

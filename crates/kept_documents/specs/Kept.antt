@@ -30,7 +30,7 @@ abbrev pub KeptAnswer : ℕ → List ℕ → ViewState → ViewState → Result 
 KeptAnswer n id old new (Ok (Some bytes)) = IsTrue old.base.tells → KeepsBody new n id bytes
 KeptAnswer n id old new (Ok None) = IsTrue old.base.tells → KeepsNone old n id
 KeptAnswer n id old new (Err ReadFault) = Rose old.base.faults new.base.faults
-KeptAnswer n id old new (Err NoMemory) = ⊤
+KeptAnswer n id old new (Err (NoMemory lack)) = ⊤
 
 -- what asking does
 pub record AsksKept (n : ℕ) (id : List ℕ) (old new : ViewState) (result : Result (Option ℕ) AskFault) : Type 0 where
@@ -51,7 +51,7 @@ KeptInAnswer g n id old new (Ok (Some bytes)) =
     IsTrue old.base.tells → IsVolume old.cells old.image g → KeepsBodyIn g new n id bytes
 KeptInAnswer g n id old new (Ok None) = IsTrue old.base.tells → IsVolume old.cells old.image g → KeepsNoneIn g old n id
 KeptInAnswer g n id old new (Err ReadFault) = Rose old.base.faults new.base.faults
-KeptInAnswer g n id old new (Err NoMemory) = ⊤
+KeptInAnswer g n id old new (Err (NoMemory lack)) = ⊤
 
 pub record AsksKeptIn (g : Layout) (n : ℕ) (id : List ℕ) (old new : ViewState) (result : Result (Option ℕ) AskFault)
     : Type 0 where

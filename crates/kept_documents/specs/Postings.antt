@@ -54,7 +54,7 @@ PostingsAnswer g n body stamp old new (Ok true) =
 PostingsAnswer g n body stamp old new (Ok false) =
     IsTrue old.base.tells → HasPostings g body → AreTrailed g n body stamp old → ⊥
 PostingsAnswer g n body stamp old new (Err ReadFault) = Rose old.base.faults new.base.faults
-PostingsAnswer g n body stamp old new (Err NoMemory) = ⊤
+PostingsAnswer g n body stamp old new (Err (NoMemory lack)) = ⊤
 
 pub record AsksPostings (g : Layout) (n : ℕ) (body : List ℕ) (stamp : Option ℕ) (old new : ViewState)
     (result : Result Bool AskFault) : Type 0 where

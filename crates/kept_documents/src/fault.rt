@@ -1,4 +1,8 @@
 //! Why a question is not answered.
+ghost use Rattle.std.specs.Prelude.{◌≡◌};
+ghost use Rattle.kept_documents.specs.declared.fault.AskFault.TheVariants as asks;
+
+use cell_types::NoMemory;
 
 /// Why a question is not answered.
 #[derive(Clone, Copy, Debug, PartialEq, Eq)]
@@ -6,5 +10,13 @@ pub enum AskFault {
     /// A read failed.
     ReadFault,
     /// No memory was to be had.
-    NoMemory,
+    NoMemory(NoMemory),
+}
+
+impl From<NoMemory> for AskFault {
+    ghost from_gives = { λ lack fault. fault ≡ asks.NoMemory lack };
+
+    fn from(lack: NoMemory) -> AskFault {
+        AskFault::NoMemory(lack)
+    }
 }

@@ -64,14 +64,12 @@ fn has_postings<V: View>(
 {
     // Known of a layout once it is asked for: its limits.
     let _slots = volume.geometry.slots();
-    let Ok(terms) = words(alloc, body, rule_of(volume.geometry.version())) else {
-        return Err(AskFault::NoMemory);
-    };
+    let terms = words(alloc, body, rule_of(volume.geometry.version()))?;
     let rows = match document_postings(alloc, &terms, volume.geometry.lists(), slot, stamp) {
         Ok(rows) => rows,
         Err(Refusal::TooManyTerms { .. }) => return Ok(false),
         // Nothing else is refused but for want of memory.
-        Err(_) => return Err(AskFault::NoMemory),
+        Err(refusal) => return Err(AskFault::NoMemory(refusal.lack())),
     };
     let Ok(trailed) = are_trailed(view, &volume.geometry, &rows) else {
         return Err(AskFault::ReadFault);

@@ -5,7 +5,7 @@ ghost use Rattle.kept_documents.specs.Kept.{AsksKept, AsksKeptIn, IsRefused};
 
 use crate::fault::AskFault;
 use crate::indexed::is_indexed;
-use cell_types::{Fault, Volume};
+use cell_types::{Fault, Volume, memory};
 use commit_record::{OpenRefusal, open};
 use document_store::{BodyFault, body_into, part_has_identifier, slot_part};
 use host_ports::MemorySink;
@@ -81,15 +81,13 @@ fn kept_body<V: View>(
     ensures { AsksKeptIn volume.now.geometry slot id.now (V.seen view.old) (V.seen view.new) result }
 {
     let mut body = MemorySink::new(alloc);
-    let Ok(()) = body.reserve(MAX_BODY_BYTES as u32) else {
-        return Err(AskFault::NoMemory);
-    };
+    body.reserve(MAX_BODY_BYTES as u32)?;
     let bytes = match body_into(view, volume, slot, &mut body) {
         Ok(bytes) => bytes,
         Err(BodyFault::Tampered(evidence)) => return refused(Fault::Tampered(evidence)),
         Err(BodyFault::ReadFault) => return Err(AskFault::ReadFault),
         // There was room for each body: none was to be had after all.
-        Err(BodyFault::SinkFault) => return Err(AskFault::NoMemory),
+        Err(BodyFault::SinkFault) => return Err(AskFault::from(memory::lacked_elsewhere())),
     };
     let led = match is_indexed(alloc, view, volume, slot, id, body.bytes()) {
         Ok(led) => led,

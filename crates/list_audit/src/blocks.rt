@@ -8,7 +8,7 @@ ghost use Rattle.list_audit.specs.Blocks.{AreListBlocks, AreNumbered, AreClosedB
 use crate::found::FoundBlocks;
 use crate::listed::ListBlock;
 use crate::targets::pointer_target;
-use cell_types::{Geometry, NoMemory, STAMPED_VERSION};
+use cell_types::{Geometry, NoMemory, STAMPED_VERSION, memory};
 use log_audit::KeptCells;
 use std::alloc::Global;
 
@@ -37,7 +37,7 @@ pub fn blocks_of(
         };
         add_targets(kept, geometry, turn, from, &mut found)?;
     }
-    Err(NoMemory)
+    Err(memory::lacked_elsewhere())
 }
 
 /// How many lists there are with the time list.

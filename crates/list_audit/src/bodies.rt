@@ -8,7 +8,7 @@ ghost use Rattle.log_audit.specs.Findings.{IsMetAll};
 ghost use Rattle.log_audit.specs.Stored.{IsStored};
 ghost use Rattle.list_audit.specs.Bodies.{AreStored, AreWordsOf, HoldsContent, IsStoredDocument};
 
-use cell_types::{Content, Geometry, NoMemory, content_of};
+use cell_types::{Content, Geometry, NoMemory, content_of, memory};
 use commit_record::document_cells;
 use log_audit::{KeptCells, StoredSlot};
 use std::alloc::Global;
@@ -51,9 +51,7 @@ fn stored_of(alloc: Global, kept: &KeptCells, start: u32, bytes: u32) -> Result<
         let Some(held) = content_in(kept, start + place) else {
             unreachable!();
         };
-        let Ok(()) = stored.extend_from_slice(&held.bytes[..usize::from(held.length)]) else {
-            return Err(NoMemory);
-        };
+        memory::extend_from_slice(&mut stored, &held.bytes[..usize::from(held.length)])?;
     }
     Ok(stored)
 }

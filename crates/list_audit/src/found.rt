@@ -3,7 +3,7 @@ ghost use Rattle.std.specs.Prelude.{◌≡◌, OnOk, [], slice_get};
 ghost use Rattle.list_audit.specs.Blocks.{AreNumbered, AddsBlock};
 
 use crate::listed::ListBlock;
-use cell_types::NoMemory;
+use cell_types::{NoMemory, memory};
 use std::alloc::Global;
 use std::collections::BTreeSet;
 
@@ -42,15 +42,11 @@ impl FoundBlocks {
         ensures adds { OnOk result (AddsBlock found.list found.block self.old.blocks.items self.new.blocks.items) }
         ensures numbered { OnOk result (AreNumbered self.new.blocks.items self.new.numbers) }
     {
-        let Ok(is_new) = self.numbers.insert(found.number()) else {
-            return Err(NoMemory);
-        };
+        let is_new = memory::insert_new(&mut self.numbers, found.number())?;
         if !is_new {
             return Ok(());
         }
-        let Ok(()) = self.blocks.push(found) else {
-            return Err(NoMemory);
-        };
+        memory::push(&mut self.blocks, found)?;
         Ok(())
     }
 }

@@ -39,7 +39,7 @@ pub(crate) fn postings_of(
             },
         ) => Ok(None),
         // Nothing else is refused but for want of memory.
-        Err(_) => Err(NoMemory),
+        Err(refusal) => Err(refusal.lack()),
     }
 }
 

@@ -8,7 +8,7 @@ ghost use Rattle.list_audit.specs.Tables.{AddsRow, AddsRows, AreOrderedRows, Are
 
 use crate::held_posting::HeldPosting;
 use crate::listing::postings_of;
-use cell_types::{NoMemory, RecordCell, address_of, decode};
+use cell_types::{NoMemory, RecordCell, address_of, decode, memory};
 use host_ports::{Meter, Work};
 use log_audit::{KeptCells, KeptVolume, StoredSlot};
 use std::alloc::Global;
@@ -33,9 +33,7 @@ impl PostingTable {
         ensures { IfOk result (λ table. table.rows.items ≡ []) }
     {
         let room = journaled_postings(volume);
-        let Ok(rows) = Vec::with_capacity(alloc, room) else {
-            return Err(NoMemory);
-        };
+        let rows = memory::with_capacity(alloc, room)?;
         Ok(PostingTable { rows })
     }
 
@@ -44,9 +42,7 @@ impl PostingTable {
         ensures { OnOk result (AddsRow row.now self.old.rows.items self.new.rows.items) }
     {
         let number = number_of(row.list(), row.key(), row.last());
-        let Ok(()) = self.rows.push((number, row.tag())) else {
-            return Err(NoMemory);
-        };
+        memory::push(&mut self.rows, (number, row.tag()))?;
         Ok(())
     }
 

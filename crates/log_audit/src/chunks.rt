@@ -3,7 +3,7 @@ ghost use Rattle.std.specs.Prelude.{◌≡◌, slice_get};
 
 use crate::chunked::{CHUNK_ROWS, ChunkedRows};
 use crate::written::WrittenCell;
-use cell_types::NoMemory;
+use cell_types::{NoMemory, memory};
 use std::alloc::Global;
 use std::mem;
 
@@ -47,9 +47,7 @@ impl ChunkedRows {
         ensures stays { OnErr result (all_rows self.new ≡ all_rows self.old) }
     {
         self.make_room(alloc)?;
-        let Ok(()) = self.last.push(row) else {
-            return Err(NoMemory);
-        };
+        memory::push(&mut self.last, row)?;
         Ok(())
     }
 
@@ -61,12 +59,8 @@ impl ChunkedRows {
         if self.last.len() < CHUNK_ROWS {
             return Ok(());
         }
-        let Ok(()) = self.full.reserve(1) else {
-            return Err(NoMemory);
-        };
-        let Ok(fresh) = Vec::with_capacity(alloc, CHUNK_ROWS) else {
-            return Err(NoMemory);
-        };
+        memory::reserve(&mut self.full, 1)?;
+        let fresh = memory::with_capacity(alloc, CHUNK_ROWS)?;
         let chunk = mem::replace(&mut self.last, fresh);
         let Ok(()) = self.full.push(chunk) else {
             // There is room for one more.

@@ -5,7 +5,7 @@ ghost use Rattle.log_audit.specs.Kept.{image_of_kept, count_of, IsNext};
 use crate::KeptCells;
 use crate::chunked::ChunkedRows;
 use crate::written::{PAGE_CELLS, WrittenCell};
-use cell_types::{Cell, NoMemory};
+use cell_types::{Cell, NoMemory, memory};
 use std::alloc::Global;
 
 impl KeptCells {
@@ -15,9 +15,7 @@ impl KeptCells {
         ensures blank { IfOk result (λ kept. (cell : ℕ) → image_of_kept kept cell ≡ None) }
     {
         let pages = (cells / PAGE_CELLS) as usize + 1;
-        let Ok(starts) = Vec::with_capacity(alloc, pages) else {
-            return Err(NoMemory);
-        };
+        let starts = memory::with_capacity(alloc, pages)?;
         Ok(KeptCells {
             count: 0,
             rows: ChunkedRows::none(alloc),
@@ -56,9 +54,7 @@ impl KeptCells {
             return Ok(());
         }
         let start = self.rows.count() as u32;
-        let Ok(()) = self.starts.push(start) else {
-            return Err(NoMemory);
-        };
+        memory::push(&mut self.starts, start)?;
         Ok(())
     }
 }

@@ -45,16 +45,12 @@ pub fn keep_cells<D: Device>(alloc: Global, device: &mut D) -> Result<KeptCells,
     ensures ends { KeepEnds (D.state device.old) (D.state device.new) result }
 {
     let count = device.cells();
-    let Ok(mut kept) = KeptCells::none(alloc, count) else {
-        return Err(Refusal::NoMemory);
-    };
+    let mut kept = KeptCells::none(alloc, count)?;
     for at in 0..count {
         let Ok(found) = device.read(at) else {
             return Err(Refusal::DeviceFault);
         };
-        let Ok(()) = kept.keep_next(alloc, found) else {
-            return Err(Refusal::NoMemory);
-        };
+        kept.keep_next(alloc, found)?;
     }
     Ok(kept)
 }

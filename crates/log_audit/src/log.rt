@@ -6,7 +6,7 @@ ghost use Rattle.log_audit.specs.Findings.{AreMetBelow};
 
 use crate::ended::{EndedSlot, ended_slot};
 use crate::kept::KeptCells;
-use cell_types::{Evidence, Geometry, NoMemory, Refusal};
+use cell_types::{Evidence, Geometry, NoMemory, Refusal, memory};
 use std::alloc::Global;
 use tamper_rules::RESERVE_CELL;
 
@@ -55,9 +55,7 @@ pub fn log_of(alloc: Global, kept: &KeptCells, geometry: &Geometry) -> Result<Lo
             }));
         };
         edge = ended.end();
-        let Ok(()) = slots.push(ended) else {
-            return Err(Refusal::NoMemory);
-        };
+        memory::push(&mut slots, ended)?;
     }
     Ok(Log { slots, edge })
 }
@@ -70,9 +68,7 @@ fn room_for_slots(
 ) -> Result<Vec<EndedSlot>, NoMemory>
     ensures { IfOk result (λ slots. slots.items ≡ []) }
 {
-    let Ok(slots) = Vec::with_capacity(alloc, reserved_slots(kept, geometry) as usize) else {
-        return Err(NoMemory);
-    };
+    let slots = memory::with_capacity(alloc, reserved_slots(kept, geometry) as usize)?;
     Ok(slots)
 }
 

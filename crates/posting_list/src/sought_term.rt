@@ -2,7 +2,8 @@
 ghost use Rattle.std.specs.Prelude.{◌≡◌, ◌≤◌, map, IfOk};
 ghost use Rattle.posting_list.specs.Terms.{sought_of};
 
-use std::alloc::{AllocError, Global};
+use cell_types::{NoMemory, memory};
+use std::alloc::Global;
 use term_tags::{list_of, tag};
 use word_reader::Term;
 
@@ -18,16 +19,19 @@ pub(crate) fn each_sought(
     alloc: Global,
     lists: u16,
     terms: &[Term],
-) -> Result<Vec<SoughtTerm>, AllocError>
+) -> Result<Vec<SoughtTerm>, NoMemory>
     requires { 1 ≤ lists }
     ensures { IfOk result (λ sought. sought.items ≡ map (sought_of lists) terms.now) }
 {
-    let mut sought = Vec::with_capacity(alloc, terms.len())?;
+    let mut sought = memory::with_capacity(alloc, terms.len())?;
     for term in terms {
-        sought.push(SoughtTerm {
-            list: list_of(term, lists),
-            tag: tag(term),
-        })?;
+        memory::push(
+            &mut sought,
+            SoughtTerm {
+                list: list_of(term, lists),
+                tag: tag(term),
+            },
+        )?;
     }
     Ok(sought)
 }

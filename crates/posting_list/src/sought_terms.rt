@@ -3,7 +3,7 @@ ghost use Rattle.std.specs.Prelude.{◌≡◌, ◌<◌, ◌^◌, vec_len};
 
 use crate::SoughtTerm;
 use crate::sought_term::each_sought;
-use cell_types::{NoMemory, Volume};
+use cell_types::{NoMemory, Volume, memory};
 use std::alloc::Global;
 use word_reader::Term;
 
@@ -23,9 +23,7 @@ impl SoughtTerms {
         ensures { IfOk result (λ sought.
             sought.terms.items ≡ map (sought_of volume.now.geometry.lists) terms.now) }
     {
-        if terms.len() > u32::MAX as usize {
-            return Err(NoMemory);
-        }
+        memory::count_of(terms)?;
         let terms = each_sought(alloc, volume.geometry.lists(), terms)?;
         Ok(SoughtTerms { terms })
     }

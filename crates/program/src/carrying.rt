@@ -1,5 +1,5 @@
 //! A command, carried out by the words that ask for it.
-use cell_types::{CopyRefusal, Refusal};
+use cell_types::{CopyRefusal, Refusal, memory};
 use host_files::Hold;
 use host_ports::{Sink, Source, StdSink, put_all};
 use program_host::{Fault, FileNumber, Terminal, device_over, hold_both, open};
@@ -29,12 +29,11 @@ pub fn carry_out<S: Source, K: Sink>(
     let alloc = rt.alloc();
     let is_copy = words.first().is_some_and(|word| word.as_str() == "copy");
     if image.as_str() == "-" && !is_copy {
-        let mut device = MemoryDevice::new(alloc, 1).map_err(|_| Refusal::NoMemory)?;
+        let mut device = MemoryDevice::new(alloc, 1).map_err(Refusal::from)?;
         run(alloc, &words, &mut device, source, sink)?;
         return Ok(());
     }
-    let mut text = Vec::new(alloc);
-    text.reserve(LINE_BYTES).map_err(|_| Refusal::NoMemory)?;
+    let mut text = memory::with_capacity(alloc, LINE_BYTES).map_err(Refusal::from)?;
     let done = if is_copy {
         copy(rt, standard_error, image.as_str(), words, &mut text)
     } else {
@@ -75,7 +74,7 @@ fn work_on_file<S: Source>(
     match run_over_file(alloc, words, &mut device, source, &mut sink, &mut meter) {
         Ok(()) => Ok(()),
         // The text is in memory: nothing else keeps it back.
-        Err(Refusal::SinkFault) => Err(Fault::Refused(Refusal::NoMemory)),
+        Err(Refusal::SinkFault) => Err(Fault::from(Refusal::from(memory::lacked_elsewhere()))),
         Err(refusal) => Err(Fault::from(refusal)),
     }
 }
@@ -127,7 +126,7 @@ fn copy(
     let mut meter = Terminal::new(standard_error);
     match run_two_over_files(alloc, &words, &mut from, &mut to, &mut sink, &mut meter) {
         Ok(()) => Ok(()),
-        Err(CopyRefusal::SinkFault) => Err(Fault::Refused(Refusal::NoMemory)),
+        Err(CopyRefusal::SinkFault) => Err(Fault::from(Refusal::from(memory::lacked_elsewhere()))),
         Err(refusal) => Err(Fault::from(refusal)),
     }
 }

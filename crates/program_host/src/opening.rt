@@ -32,7 +32,7 @@ pub fn device_over<F: FileExt + OpenFile + Seek + Hold + Drop>(
     file: HeldFile<F>,
     meter: Terminal,
 ) -> Result<FileDevice<MeteredFile<HeldFile<F>, Terminal>>, Fault> {
-    let pages = Pages::new(alloc).map_err(|_| Refusal::NoMemory)?;
+    let pages = Pages::new(alloc).map_err(Refusal::from)?;
     FileDevice::over(MeteredFile::new(file, meter), pages).map_err(|_| Fault::Image)
 }
 

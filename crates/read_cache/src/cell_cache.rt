@@ -1,5 +1,5 @@
 //! The memory of kept cells.
-use cell_types::{Cell, NoMemory};
+use cell_types::{Cell, NoMemory, memory};
 use lru::LruCache;
 use std::alloc::Global;
 use std::num::NonZeroUsize;
@@ -22,7 +22,7 @@ impl CellCache {
         let Some(most) = NonZeroUsize::new(capacity as usize) else {
             unreachable!();
         };
-        let cells = LruCache::sparse(alloc, most)?;
+        let cells = LruCache::sparse(alloc, most).map_err(|_| memory::lacked_elsewhere())?;
         Ok(CellCache { cells })
     }
 }

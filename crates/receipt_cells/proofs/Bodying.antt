@@ -38,7 +38,7 @@ module _ (g : Layout) (n : ℕ) (body : List ℕ) (old mid : ViewState) (listed 
     viewed = viewed_then asked.viewed lists.viewed;
     ends = rose_later _ _ _ asked.viewed.called.faults lists.ends;
   }
-  with_stamp stamp new later (Err NoMemory) asked lists = record {
+  with_stamp stamp new later (Err (NoMemory lack)) asked lists = record {
     viewed = viewed_then asked.viewed lists.viewed;
     ends = tt;
   }
@@ -70,7 +70,7 @@ module _ (g : Layout) (n : ℕ) (old mid : ViewState) (listed : List (ℕ × Lis
     viewed = viewed_then viewed lists.viewed;
     ends = rose_later _ _ _ viewed.called.faults lists.ends;
   }
-  with_body body new later (Err NoMemory) has lists = record { viewed = viewed_then viewed lists.viewed; ends = tt }
+  with_body body new later (Err (NoMemory lack)) has lists = record { viewed = viewed_then viewed lists.viewed; ends = tt }
   with_body body new later (Ok u) has lists = record {
     viewed = viewed_then viewed lists.viewed;
     ends = λ tells id own holds stamp is exist trailed.

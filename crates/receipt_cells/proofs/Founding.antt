@@ -106,7 +106,7 @@ module _ (n : ℕ) (id : List ℕ) (old mid : ViewState) (opened : Viewed old mi
       viewed = viewed_then opened lists.viewed;
       ends = rose_later _ _ _ opened.called.faults lists.ends;
     }
-    of_volume new listed later (Err NoMemory) lists = record { viewed = viewed_then opened lists.viewed; ends = tt }
+    of_volume new listed later (Err (NoMemory lack)) lists = record { viewed = viewed_then opened lists.viewed; ends = tt }
     of_volume new listed later (Ok u) lists = record {
       viewed = viewed_then opened lists.viewed;
       ends = λ tells l volume body kept.
@@ -121,7 +121,7 @@ module _ (n : ℕ) (id : List ℕ) (old mid : ViewState) (listed : List (ℕ × 
   -- whether it is kept could not be asked
   pub ask_fails : (why : AskFault) → AsksKept n id old mid (Err why) → ListsKept n id old mid listed listed (Err why)
   ask_fails ReadFault asked = record { viewed = asked.viewed; ends = asked.ends }
-  ask_fails NoMemory asked = record { viewed = asked.viewed; ends = tt }
+  ask_fails (NoMemory lack) asked = record { viewed = asked.viewed; ends = tt }
 
   -- it is not
   pub not_kept : AsksKept n id old mid (Ok None) → ListsKept n id old mid listed listed (Ok None)
@@ -141,7 +141,7 @@ module _ (n : ℕ) (id : List ℕ) (old mid : ViewState) (listed : List (ℕ × 
         viewed = viewed_then asked.viewed lists.viewed;
         ends = rose_later _ _ _ asked.viewed.called.faults lists.ends;
       }
-      found_fails NoMemory lists = record { viewed = viewed_then asked.viewed lists.viewed; ends = tt }
+      found_fails (NoMemory lack) lists = record { viewed = viewed_then asked.viewed lists.viewed; ends = tt }
 
       -- they were
       pub kept_listed : ListsFound n id mid new listed later (Ok _) → ListsKept n id old new listed later (Ok (Some bytes))

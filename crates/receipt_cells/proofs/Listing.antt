@@ -181,7 +181,7 @@ module _ (from at : ℕ) (old now new : ViewState) (listed between later : List 
     viewed = viewed_then so_far.viewed lists.viewed;
     ends = rose_later _ _ _ so_far.viewed.called.faults lists.ends;
   }
-  row_fails these NoMemory lists = record { viewed = viewed_then so_far.viewed lists.viewed; ends = tt }
+  row_fails these (NoMemory lack) lists = record { viewed = viewed_then so_far.viewed lists.viewed; ends = tt }
 
 -- the row has come to its end
 pub all_listed : (from at to : ℕ) (old now : ViewState) (listed later : List (ℕ × List ℕ))
@@ -205,10 +205,10 @@ cells_then (Err ReadFault) a b = record {
   viewed = viewed_then a.viewed b.viewed;
   ends = rose_later _ _ _ a.viewed.called.faults b.ends;
 }
-cells_then (Err NoMemory) a b = record { viewed = viewed_then a.viewed b.viewed; ends = tt }
+cells_then (Err (NoMemory lack)) a b = record { viewed = viewed_then a.viewed b.viewed; ends = tt }
 
 -- without the first of them there is no second
 pub cells_fail : {A B : ℕ → Type 0} {old mid : ViewState} {listed between : List (ℕ × List ℕ)} (why : AskFault)
     → ListsCells A old mid listed between (Err why) → ListsCells B old mid listed between (Err why)
 cells_fail ReadFault a = record { viewed = a.viewed; ends = a.ends }
-cells_fail NoMemory a = record { viewed = a.viewed; ends = tt }
+cells_fail (NoMemory lack) a = record { viewed = a.viewed; ends = tt }

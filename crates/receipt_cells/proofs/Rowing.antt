@@ -106,7 +106,7 @@ module _ (g : Layout) (rows : List ListedPosting) (count : ℕ) (old now new : V
     viewed = viewed_then so_far.viewed lists.viewed;
     ends = rose_later _ _ _ so_far.viewed.called.faults lists.ends;
   }
-  row_fails NoMemory lists = record { viewed = viewed_then so_far.viewed lists.viewed; ends = tt }
+  row_fails (NoMemory lack) lists = record { viewed = viewed_then so_far.viewed lists.viewed; ends = tt }
 
 -- those of each are listed
 pub all_listed : (g : Layout) (rows : List ListedPosting) (count : ℕ) (old now : ViewState)
@@ -172,4 +172,4 @@ module _ (g : Layout) (n : ℕ) (body : List ℕ) (stamp : Option ℕ) (old new 
             just_as of_rows (in_rows h.0 h.1) h.2;
       }
       each_listed (Err ReadFault) lists = record { viewed = lists.viewed; ends = lists.ends }
-      each_listed (Err NoMemory) lists = record { viewed = lists.viewed; ends = tt }
+      each_listed (Err (NoMemory lack)) lists = record { viewed = lists.viewed; ends = tt }

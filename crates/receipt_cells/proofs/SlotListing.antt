@@ -34,13 +34,13 @@ use Rattle.receipt_cells.proofs.Listing.{just_of, written_then}
 pub fails_later : (old mid new : ViewState) (why : AskFault) → Viewed old mid → ListFails mid new why
     → ListFails old new why
 fails_later old mid new ReadFault viewed fails = counts.rose_later _ _ _ viewed.called.faults fails
-fails_later old mid new NoMemory viewed fails = tt
+fails_later old mid new (NoMemory lack) viewed fails = tt
 
 -- and what gives up a listing of cells gives up each other
 pub cells_fail : {A : ℕ → Type 0} {old new : ViewState} {listed later : List (ℕ × List ℕ)} (why : AskFault)
     → ListsCells A old new listed later (Err why) → ListFails old new why
 cells_fail ReadFault lists = lists.ends
-cells_fail NoMemory lists = tt
+cells_fail (NoMemory lack) lists = tt
 
 -- a cell that holds a record is written
 pub holds_written : {image : Image} {at : ℕ} {r : RecordCell} (c : ℕ) → c ≡ at → Holds image at r → IsWritten image c

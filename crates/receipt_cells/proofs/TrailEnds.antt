@@ -40,7 +40,7 @@ module _ (pool block low bound : ℕ) (p : PostingFields) (old mid : ViewState) 
         → IsGivenUp fault result → ListsBlock pool block p low bound old mid listed listed result
     at_fault faults.Failed (Ok u) ends says = absurd says
     at_fault faults.Failed (Err ReadFault) ends says = record { viewed = viewed; ends = ends }
-    at_fault faults.Failed (Err NoMemory) ends says = absurd says
+    at_fault faults.Failed (Err (NoMemory lack)) ends says = absurd says
     at_fault (faults.Tampered e) (Err why) ends says = absurd says
     at_fault (faults.Tampered e) (Ok u) ends says =
         none_there (leading.at_fault pool block low bound p old mid viewed (faults.Tampered e) (Ok false) ends refl)
@@ -72,7 +72,7 @@ module _ (pool block low bound : ℕ) (p : PostingFields) (old mid : ViewState) 
       viewed = viewed_then viewed lists.viewed;
       ends = rose_later _ _ _ viewed.called.faults lists.ends;
     }
-    at_entry e new list (Err NoMemory) ends lists = record { viewed = viewed_then viewed lists.viewed; ends = tt }
+    at_entry e new list (Err (NoMemory lack)) ends lists = record { viewed = viewed_then viewed lists.viewed; ends = tt }
     at_entry e new list (Ok u) ends lists = record {
       viewed = viewed_then viewed lists.viewed;
       ends = λ tells t has.
@@ -106,7 +106,7 @@ module _ (pool block low bound : ℕ) (p : PostingFields) (old mid : ViewState) 
       viewed = viewed_then viewed read.viewed;
       ends = rose_later _ _ _ viewed.called.faults read.ends;
     }
-    lost_pointer next faults.Failed (Err NoMemory) read says = absurd says
+    lost_pointer next faults.Failed (Err (NoMemory lack)) read says = absurd says
     lost_pointer next (faults.Tampered e) (Err why) read says = absurd says
     lost_pointer next (faults.Tampered e) (Ok u) read says = nothing (leading.lost_pointer pool block low bound p old mid
         viewed next l s is from below full (faults.Tampered e) (Ok false) read refl)
@@ -143,7 +143,7 @@ module _ (pool block low bound : ℕ) (p : PostingFields) (old mid : ViewState) 
           viewed = viewed_then so_far lists.viewed;
           ends = rose_later _ _ _ so_far.called.faults lists.ends;
         }
-        target_fails NoMemory lists = record { viewed = viewed_then so_far lists.viewed; ends = tt }
+        target_fails (NoMemory lack) lists = record { viewed = viewed_then so_far lists.viewed; ends = tt }
 
         module _ (lists : ListsBlock pool target p s.low s.high next asked listed between (Ok _)) (new : ViewState)
             (list : List (ℕ × List ℕ)) where
@@ -158,7 +158,7 @@ module _ (pool block low bound : ℕ) (p : PostingFields) (old mid : ViewState) 
             viewed = viewed_then to_target hop.viewed;
             ends = rose_later _ _ _ to_target.called.faults hop.ends;
           }
-          leads_on (Err NoMemory) hop = record { viewed = viewed_then to_target hop.viewed; ends = tt }
+          leads_on (Err (NoMemory lack)) hop = record { viewed = viewed_then to_target hop.viewed; ends = tt }
           leads_on (Ok u) hop = record {
             viewed = viewed_then to_target hop.viewed;
             ends = λ tells t has.
@@ -181,7 +181,7 @@ from_head pool head p old new listed list (Ok u) lists = record {
   ends = λ tells t. lists.ends tells t (leading.trail_has_key t.1);
 }
 from_head pool head p old new listed list (Err ReadFault) lists = record { viewed = lists.viewed; ends = lists.ends }
-from_head pool head p old new listed list (Err NoMemory) lists = record { viewed = lists.viewed; ends = tt }
+from_head pool head p old new listed list (Err (NoMemory lack)) lists = record { viewed = lists.viewed; ends = tt }
 
 -- the front's cells of a block that leads on were listed, and then the jump cell
 pub hop_listed : (block level digit places at : ℕ) (old mid new : ViewState) (listed between list : List (ℕ × List ℕ))

@@ -89,7 +89,7 @@ module _ (g : Layout) (n : ℕ) (id : List ℕ) (old first : ViewState) (l0 l1 :
   pub cell_fails : (why : AskFault) → ListsCells (λ c. c ≡ 0) old first l0 l1 (Err why)
       → ListsDocument g n id old first l0 l1 (Err why)
   cell_fails ReadFault lists = record { viewed = lists.viewed; ends = lists.ends }
-  cell_fails NoMemory lists = record { viewed = lists.viewed; ends = tt }
+  cell_fails (NoMemory lack) lists = record { viewed = lists.viewed; ends = tt }
 
   module _ (zero : ListsCells (λ c. c ≡ 0) old first l0 l1 (Ok _)) (second : ViewState) (l2 : List (ℕ × List ℕ)) where
     -- nor those of the slot
@@ -99,7 +99,7 @@ module _ (g : Layout) (n : ℕ) (id : List ℕ) (old first : ViewState) (l0 l1 :
       viewed = viewed_then zero.viewed lists.viewed;
       ends = rose_later _ _ _ zero.viewed.called.faults lists.ends;
     }
-    slot_fails NoMemory lists = record { viewed = viewed_then zero.viewed lists.viewed; ends = tt }
+    slot_fails (NoMemory lack) lists = record { viewed = viewed_then zero.viewed lists.viewed; ends = tt }
 
     module _ (slot : ListsSlot g n first second l1 l2 (Ok _)) (third : ViewState) (l3 : List (ℕ × List ℕ)) where
       to_second : Viewed old second
@@ -112,7 +112,7 @@ module _ (g : Layout) (n : ℕ) (id : List ℕ) (old first : ViewState) (l0 l1 :
         viewed = viewed_then to_second lists.viewed;
         ends = rose_later _ _ _ to_second.called.faults lists.ends;
       }
-      body_fails NoMemory lists = record { viewed = viewed_then to_second lists.viewed; ends = tt }
+      body_fails (NoMemory lack) lists = record { viewed = viewed_then to_second lists.viewed; ends = tt }
 
       module _ (postings : ListsBody g n second third l2 l3 (Ok _)) (last : ViewState) (l4 : List (ℕ × List ℕ)) where
         to_third : Viewed old third
@@ -160,7 +160,7 @@ module _ (g : Layout) (n : ℕ) (id : List ℕ) (old first : ViewState) (l0 l1 :
           viewed = viewed_then to_third lists.viewed;
           ends = rose_later _ _ _ to_third.called.faults lists.ends;
         }
-        path_ends (Err NoMemory) lists = record { viewed = viewed_then to_third lists.viewed; ends = tt }
+        path_ends (Err (NoMemory lack)) lists = record { viewed = viewed_then to_third lists.viewed; ends = tt }
         path_ends (Ok u) lists = record {
           viewed = viewed_then to_third lists.viewed;
           ends = λ tells volume body kept. all_parts lists tells volume body kept;

@@ -20,7 +20,7 @@ StampedEnds g n body old new listed later (Ok u) =
     IsTrue old.base.tells → (stamp : Option ℕ) → IsStampOf g old.image n stamp → HasPostings g body
     → AreTrailed g n body stamp old → ListsJust (IsOfPostings g old.cells new.image n body stamp) new.image listed later
 StampedEnds g n body old new listed later (Err ReadFault) = Rose old.base.faults new.base.faults
-StampedEnds g n body old new listed later (Err NoMemory) = ⊤
+StampedEnds g n body old new listed later (Err (NoMemory lack)) = ⊤
 
 pub record ListsStamped (g : Layout) (n : ℕ) (body : List ℕ) (old new : ViewState) (listed later : List (ℕ × List ℕ))
     (result : Result Unit AskFault) : Type 0 where
@@ -35,7 +35,7 @@ BodyEnds g n old new listed later (Ok u) =
     → IsStampOf g old.image n stamp → HasPostings g body → AreTrailed g n body stamp old
     → ListsJust (IsOfPostings g old.cells new.image n body stamp) new.image listed later
 BodyEnds g n old new listed later (Err ReadFault) = Rose old.base.faults new.base.faults
-BodyEnds g n old new listed later (Err NoMemory) = ⊤
+BodyEnds g n old new listed later (Err (NoMemory lack)) = ⊤
 
 -- what listing them does
 pub record ListsBody (g : Layout) (n : ℕ) (old new : ViewState) (listed later : List (ℕ × List ℕ))

@@ -20,7 +20,7 @@ use Rattle.receipt_cells.specs.Needed.{ListsJust, PathRests, SlotRests}
 -- why a listing is given up; want of memory is free
 abbrev pub ListFails : ViewState → ViewState → AskFault → Type 0
 ListFails old new ReadFault = Rose old.base.faults new.base.faults
-ListFails old new NoMemory = ⊤
+ListFails old new (NoMemory lack) = ⊤
 
 -- a fault of a look gives the listing up where a read failed, and else ends it
 abbrev pub IsUnlisted : Fault → Result Unit AskFault → Type 0

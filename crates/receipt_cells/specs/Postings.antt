@@ -47,7 +47,7 @@ RowsEnds g rows old new listed later (Ok u) =
     IsTrue old.base.tells → AreRowsTrailed g rows old → (count : ℕ) × ((i : ℕ) (row : ListedPosting)
     → slice_get rows i ≡ Some row → i < count) × ListsJust (IsOfRows g old.cells new.image rows count) new.image listed later
 RowsEnds g rows old new listed later (Err ReadFault) = Rose old.base.faults new.base.faults
-RowsEnds g rows old new listed later (Err NoMemory) = ⊤
+RowsEnds g rows old new listed later (Err (NoMemory lack)) = ⊤
 
 pub record ListsRows (g : Layout) (rows : List ListedPosting) (old new : ViewState) (listed later : List (ℕ × List ℕ))
     (result : Result Unit AskFault) : Type 0 where
@@ -70,7 +70,7 @@ PostingsEnds g n body stamp old new listed later (Ok u) =
     IsTrue old.base.tells → HasPostings g body → AreTrailed g n body stamp old
     → ListsJust (IsOfPostings g old.cells new.image n body stamp) new.image listed later
 PostingsEnds g n body stamp old new listed later (Err ReadFault) = Rose old.base.faults new.base.faults
-PostingsEnds g n body stamp old new listed later (Err NoMemory) = ⊤
+PostingsEnds g n body stamp old new listed later (Err (NoMemory lack)) = ⊤
 
 pub record ListsPostings (g : Layout) (n : ℕ) (body : List ℕ) (stamp : Option ℕ) (old new : ViewState)
     (listed later : List (ℕ × List ℕ)) (result : Result Unit AskFault) : Type 0 where

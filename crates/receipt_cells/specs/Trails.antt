@@ -29,7 +29,7 @@ BlockEnds pool block p low bound old new listed later (Ok u) =
     IsTrue old.base.tells → HasTrailFrom pool old block p → HasKeyIn old.image block low bound
     → ListsJust (TrailCells pool old.cells new.image block p) new.image listed later
 BlockEnds pool block p low bound old new listed later (Err ReadFault) = Rose old.base.faults new.base.faults
-BlockEnds pool block p low bound old new listed later (Err NoMemory) = ⊤
+BlockEnds pool block p low bound old new listed later (Err (NoMemory lack)) = ⊤
 
 pub record ListsBlock (pool block : ℕ) (p : PostingFields) (low bound : ℕ) (old new : ViewState)
     (listed later : List (ℕ × List ℕ)) (result : Result Unit AskFault) : Type 0 where
@@ -43,7 +43,7 @@ TrailEnds pool head p old new listed later (Ok u) =
     IsTrue old.base.tells → HasTrailFrom pool old head p
     → ListsJust (TrailCells pool old.cells new.image head p) new.image listed later
 TrailEnds pool head p old new listed later (Err ReadFault) = Rose old.base.faults new.base.faults
-TrailEnds pool head p old new listed later (Err NoMemory) = ⊤
+TrailEnds pool head p old new listed later (Err (NoMemory lack)) = ⊤
 
 -- what listing the cells of a posting's trail does
 pub record ListsTrail (pool head : ℕ) (p : PostingFields) (old new : ViewState) (listed later : List (ℕ × List ℕ))

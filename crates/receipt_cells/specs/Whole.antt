@@ -21,7 +21,7 @@ DocumentEnds g n id old new listed later (Ok u) =
     → IsKept old.cells old.image g (document_of n id body)
     → ListsJust (RestsOn old.cells new.image g (document_of n id body)) new.image listed later
 DocumentEnds g n id old new listed later (Err ReadFault) = Rose old.base.faults new.base.faults
-DocumentEnds g n id old new listed later (Err NoMemory) = ⊤
+DocumentEnds g n id old new listed later (Err (NoMemory lack)) = ⊤
 
 pub record ListsDocument (g : Layout) (n : ℕ) (id : List ℕ) (old new : ViewState) (listed later : List (ℕ × List ℕ))
     (result : Result Unit AskFault) : Type 0 where
@@ -41,7 +41,7 @@ FoundEnds n id old new listed later (Ok u) =
     → IsKept old.cells old.image g (document_of n id body)
     → ListsJust (RestsOn old.cells new.image g (document_of n id body)) new.image listed later
 FoundEnds n id old new listed later (Err ReadFault) = Rose old.base.faults new.base.faults
-FoundEnds n id old new listed later (Err NoMemory) = ⊤
+FoundEnds n id old new listed later (Err (NoMemory lack)) = ⊤
 
 pub record ListsFound (n : ℕ) (id : List ℕ) (old new : ViewState) (listed later : List (ℕ × List ℕ))
     (result : Result Unit AskFault) : Type 0 where
@@ -64,7 +64,7 @@ KeptListEnds n id old new listed later (Ok (Some bytes)) =
     IsTrue old.base.tells → IsKeptListed new n id bytes listed later
 KeptListEnds n id old new listed later (Ok None) = IsTrue old.base.tells → KeepsNone old n id
 KeptListEnds n id old new listed later (Err ReadFault) = Rose old.base.faults new.base.faults
-KeptListEnds n id old new listed later (Err NoMemory) = ⊤
+KeptListEnds n id old new listed later (Err (NoMemory lack)) = ⊤
 
 -- what listing does, once it was asked whether the document is kept
 pub record ListsKept (n : ℕ) (id : List ℕ) (old new : ViewState) (listed later : List (ℕ × List ℕ))

@@ -28,7 +28,7 @@ abbrev pub WrittenEnds : (ℕ → Type 0) → ViewState → ViewState → List (
 WrittenEnds These old new listed later (Ok u) =
     IsTrue old.base.tells → ListsWritten These old.image new.image listed later
 WrittenEnds These old new listed later (Err ReadFault) = Rose old.base.faults new.base.faults
-WrittenEnds These old new listed later (Err NoMemory) = ⊤
+WrittenEnds These old new listed later (Err (NoMemory lack)) = ⊤
 
 -- what listing the written ones of these cells does
 pub record ListsCells (These : ℕ → Type 0) (old new : ViewState) (listed later : List (ℕ × List ℕ))

@@ -4,7 +4,7 @@ ghost use Rattle.volume_meaning.specs.Slots.{IsDoneSlot};
 ghost use Rattle.receipt_cells.specs.Bodies.{ListsBody, ListsStamped};
 
 use crate::postings::list_postings;
-use cell_types::Volume;
+use cell_types::{Volume, memory};
 use document_store::{BodyFault, body_into};
 use host_ports::MemorySink;
 use kept_documents::{AskFault, slot_stamp};
@@ -28,16 +28,14 @@ pub(crate) fn list_body<V: View>(
     ensures { ListsBody volume.now.geometry slot (V.seen view.old) (V.seen view.new) listed.old listed.new result }
 {
     let mut body = MemorySink::new(alloc);
-    let Ok(()) = body.reserve(MAX_BODY_BYTES as u32) else {
-        return Err(AskFault::NoMemory);
-    };
+    body.reserve(MAX_BODY_BYTES as u32)?;
     let _bytes = match body_into(view, volume, slot, &mut body) {
         Ok(bytes) => bytes,
         // Then the slot holds no document.
         Err(BodyFault::Tampered(_evidence)) => return Ok(()),
         Err(BodyFault::ReadFault) => return Err(AskFault::ReadFault),
         // There was room for each body: none was to be had after all.
-        Err(BodyFault::SinkFault) => return Err(AskFault::NoMemory),
+        Err(BodyFault::SinkFault) => return Err(AskFault::from(memory::lacked_elsewhere())),
     };
     list_stamped(alloc, view, volume, slot, body.bytes(), listed)
 }

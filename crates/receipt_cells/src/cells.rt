@@ -21,9 +21,7 @@ pub(crate) fn list_cell<V: View>(
     let Some(value) = found else {
         return Ok(());
     };
-    let Ok(()) = listed.add(at, value) else {
-        return Err(AskFault::NoMemory);
-    };
+    listed.add(at, value)?;
     Ok(())
 }
 

@@ -33,15 +33,13 @@ pub(crate) fn list_postings<V: View>(
 {
     // Known of a layout once it is asked for: its limits.
     let _slots = volume.geometry.slots();
-    let Ok(terms) = words(alloc, body, rule_of(volume.geometry.version())) else {
-        return Err(AskFault::NoMemory);
-    };
+    let terms = words(alloc, body, rule_of(volume.geometry.version()))?;
     let rows = match document_postings(alloc, &terms, volume.geometry.lists(), slot, stamp) {
         Ok(rows) => rows,
         // Then the document is not kept.
         Err(Refusal::TooManyTerms { .. }) => return Ok(()),
         // Nothing else is refused but for want of memory.
-        Err(_) => return Err(AskFault::NoMemory),
+        Err(refusal) => return Err(AskFault::NoMemory(refusal.lack())),
     };
     list_rows(view, &volume.geometry, &rows, listed)
 }

@@ -1,4 +1,5 @@
 -- Why a receipt is accepted wherever its cells stand.
+use Rattle.cell_types.specs.declared.refusal.NoMemory as lacks
 use Rattle.std.proofs.Common.{◌≡◌, ◌⊎◌, inl, inr, ℕ, List, Some, Result, Ok, Err, refl}
 use Rattle.worm_device.specs.Counts.{Rose}
 use Rattle.receipt_text.specs.Listed.{listed_image}
@@ -16,11 +17,11 @@ hold_on r body image old new result shows stand tells extends checks = go result
 
     go : (result : Result Checked CheckRefusal) → CheckAnswer r old new result
         → ((done : Checked) × (result ≡ Ok done))
-        ⊎ ((result ≡ Err NoMemory) ⊎ ((result ≡ Err DeviceFault) × Rose old.faults new.faults))
+        ⊎ (((lack : lacks.NoMemory) × (result ≡ Err (NoMemory lack))) ⊎ ((result ≡ Err DeviceFault) × Rose old.faults new.faults))
     go (Ok done) ends = inl (done, refl)
     go (Err (CellDiffers c)) ends =
         let h = ends tells in
         absurd (h.differs (stands c h.value h.is))
     go (Err (NotShown n)) ends = absurd (ends.1 body shows)
     go (Err DeviceFault) ends = inr (inr (refl, ends))
-    go (Err NoMemory) ends = inr (inl refl)
+    go (Err (NoMemory lack)) ends = inr (inl (lack, refl))

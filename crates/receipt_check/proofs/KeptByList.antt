@@ -43,7 +43,7 @@ lists_by_any n id old new a b listed later result lists = record {
       }
   go (Ok None) ends = ends
   go (Err ReadFault) ends = ends
-  go (Err NoMemory) ends = tt
+  go (Err (NoMemory lack)) ends = tt
 
 -- what was listed of the same view
 pub lists_then : {n : ℕ} {id : List ℕ} {a b s t : ViewState} {listed later new : List (ℕ × List ℕ)}

@@ -31,7 +31,7 @@ abbrev pub ListedEnds : List (ℕ × List ℕ) → DeviceState → DeviceState �
 ListedEnds listed old new (Ok u) = IsTrue old.tells → Extends (listed_image listed) new.image
 ListedEnds listed old new (Err (CellDiffers c)) = IsTrue old.tells → IsFirstCellToDiffer listed new c
 ListedEnds listed old new (Err DeviceFault) = Rose old.faults new.faults
-ListedEnds listed old new (Err NoMemory) = ⊥
+ListedEnds listed old new (Err (NoMemory lack)) = ⊥
 ListedEnds listed old new (Err (NotShown n)) = ⊥
 
 -- comparing writes nothing
@@ -66,7 +66,7 @@ CheckAnswer r old new (Err (NotShown n)) =
     (n ≡ r.slot) × ((body : List ℕ) → ShowsDocument old.cells r body → ⊥)
     × (IsTrue old.tells → Extends (listed_image r.cells) new.image)
 CheckAnswer r old new (Err DeviceFault) = Rose old.faults new.faults
-CheckAnswer r old new (Err NoMemory) = IsTrue old.tells → Extends (listed_image r.cells) new.image
+CheckAnswer r old new (Err (NoMemory lack)) = IsTrue old.tells → Extends (listed_image r.cells) new.image
 
 -- A check writes nothing: where nobody else writes, the same stands in each cell at its exit.
 pub record ChecksReceipt (r : Receipt) (old new : DeviceState) (result : Result Checked CheckRefusal) : Type 0 where
@@ -79,4 +79,4 @@ abbrev pub refusal_of_check : CheckRefusal → Refusal
 refusal_of_check (CellDiffers c) = refusals.CellDiffers c
 refusal_of_check (NotShown n) = refusals.NotShown n
 refusal_of_check DeviceFault = refusals.DeviceFault
-refusal_of_check NoMemory = refusals.NoMemory
+refusal_of_check (NoMemory lack) = refusals.NoMemory

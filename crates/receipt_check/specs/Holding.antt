@@ -1,4 +1,5 @@
 -- A law of receipts.
+use Rattle.cell_types.specs.declared.refusal.NoMemory as lacks
 use Rattle.std.specs.Prelude.{◌≡◌, ◌⊎◌, List, ℕ, Result, Ok, Err, IsTrue}
 use Rattle.cell_types.specs.Image.{Image, Extends}
 use Rattle.worm_device.specs.Counts.{Rose}
@@ -18,4 +19,4 @@ ReceiptsHoldOn =
     → ShowsDocument old.cells r body → Extends (listed_image r.cells) image → IsTrue old.tells → Extends image old.image
     → ChecksReceipt r old new result
     → ((done : Checked) × (result ≡ Ok done))
-    ⊎ ((result ≡ Err NoMemory) ⊎ ((result ≡ Err DeviceFault) × Rose old.faults new.faults))
+    ⊎ (((lack : lacks.NoMemory) × (result ≡ Err (NoMemory lack))) ⊎ ((result ≡ Err DeviceFault) × Rose old.faults new.faults))

@@ -38,7 +38,7 @@ abbrev pub ReceiptEnds : ℕ → List ℕ → DeviceState → DeviceState → Re
 ReceiptEnds n id old new (Ok (Some r)) = IsSlotReceipt n id old new r
 ReceiptEnds n id old new (Ok None) = IsTrue old.tells → KeepsNone (seen_directly old 0) n id
 ReceiptEnds n id old new (Err asks.ReadFault) = Rose old.faults new.faults
-ReceiptEnds n id old new (Err asks.NoMemory) = ⊤
+ReceiptEnds n id old new (Err (asks.NoMemory lack)) = ⊤
 
 pub record GivesReceipt (n : ℕ) (id : List ℕ) (old new : DeviceState) (result : Result (Option Receipt) AskFault)
     : Type 0 where

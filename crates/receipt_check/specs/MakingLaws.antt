@@ -1,4 +1,5 @@
 -- A law of receipts that were made.
+use Rattle.cell_types.specs.declared.refusal.NoMemory as lacks
 use Rattle.std.specs.Prelude.{◌≡◌, ◌⊎◌, List, ℕ, Result, Ok, Err, IsTrue}
 use Rattle.cell_types.specs.Image.{Extends}
 use Rattle.worm_device.specs.Counts.{Rose}
@@ -18,4 +19,4 @@ ReceiptsAreAccepted =
     → MakesReceipt id old new (Ok r) → IsTrue old.tells → IsTrue before.tells → before.cells ≡ new.cells
     → Extends new.image before.image → ChecksReceipt r before after result
     → ((done : Checked) × (result ≡ Ok done))
-    ⊎ ((result ≡ Err NoMemory) ⊎ ((result ≡ Err DeviceFault) × Rose before.faults after.faults))
+    ⊎ (((lack : lacks.NoMemory) × (result ≡ Err (NoMemory lack))) ⊎ ((result ≡ Err DeviceFault) × Rose before.faults after.faults))

@@ -4,7 +4,7 @@ ghost use Rattle.receipt_text.specs.Listed.{AreListed};
 ghost use Rattle.receipt_check.specs.Checks.{ChecksReceipt, ComparesListed, refusal_of_check};
 
 use crate::shown::ShownCells;
-use cell_types::Refusal;
+use cell_types::{NoMemory, Refusal};
 use kept_documents::{AskFault, is_kept};
 use receipt_text::{ListedCells, Receipt};
 use std::alloc::Global;
@@ -28,7 +28,7 @@ pub enum CheckRefusal {
     /// A read failed.
     DeviceFault,
     /// No memory was to be had.
-    NoMemory,
+    NoMemory(NoMemory),
 }
 
 impl From<CheckRefusal> for Refusal {
@@ -39,7 +39,7 @@ impl From<CheckRefusal> for Refusal {
             CheckRefusal::CellDiffers(cell) => Refusal::CellDiffers(cell),
             CheckRefusal::NotShown(slot) => Refusal::NotShown(slot),
             CheckRefusal::DeviceFault => Refusal::DeviceFault,
-            CheckRefusal::NoMemory => Refusal::NoMemory,
+            CheckRefusal::NoMemory(lack) => Refusal::from(lack),
         }
     }
 }
@@ -67,7 +67,7 @@ pub fn check_receipt<D: Device>(
             bytes,
         }),
         Ok(None) => Err(CheckRefusal::NotShown(receipt.slot)),
-        Err(AskFault::NoMemory) => Err(CheckRefusal::NoMemory),
+        Err(AskFault::NoMemory(lack)) => Err(CheckRefusal::NoMemory(lack)),
         // No read of listed cells fails.
         Err(AskFault::ReadFault) => unreachable!(),
     }

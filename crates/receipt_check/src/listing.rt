@@ -42,7 +42,7 @@ pub(crate) fn shows_document(alloc: Global, receipt: &Receipt, cells: u32) -> Re
     match is_kept(alloc, &mut shown, receipt.slot, receipt.identifier.bytes()) {
         Ok(Some(_bytes)) => Ok(true),
         Ok(None) => Ok(false),
-        Err(AskFault::NoMemory) => Err(NoMemory),
+        Err(AskFault::NoMemory(lack)) => Err(lack),
         // No read of listed cells fails.
         Err(AskFault::ReadFault) => unreachable!(),
     }

@@ -29,7 +29,7 @@ ghost use Rattle.receipt_check.specs.Judging.{GivesReceipt, LimitEnds};
 use crate::listing::{list_directly, shows_document};
 use crate::looking::look_up;
 use crate::naming::name_unkept;
-use cell_types::Refusal;
+use cell_types::{Refusal, memory};
 use document_store::Text;
 use kept_documents::AskFault;
 use receipt_text::{ListedCells, MAX_RECEIPT_CELLS, Receipt};
@@ -56,7 +56,7 @@ pub fn make_receipt<D: Device>(alloc: Global, device: &mut D, id: &[u8]) -> Resu
     match receipt_of_slot(alloc, device, found.slot, id) {
         Ok(Some(receipt)) => within_limit(receipt),
         Ok(None) => Err(name_unkept(found.slot)),
-        Err(AskFault::NoMemory) => Err(Refusal::NoMemory),
+        Err(AskFault::NoMemory(lack)) => Err(Refusal::from(lack)),
         Err(AskFault::ReadFault) => Err(Refusal::DeviceFault),
     }
 }
@@ -71,9 +71,7 @@ fn receipt_of_slot<D: Device>(
     ensures { GivesReceipt slot id.now (D.state device.old) (D.state device.new) result }
 {
     let cells = device.cells();
-    let Ok(identifier) = Vec::from_slice(alloc, id) else {
-        return Err(AskFault::NoMemory);
-    };
+    let identifier = memory::from_slice(alloc, id)?;
     let mut listed = ListedCells::new(alloc);
     let kept = match list_directly(alloc, device, slot, id, &mut listed) {
         Ok(kept) => kept,
@@ -97,7 +95,7 @@ fn receipt_of_slot<D: Device>(
     match shows_document(alloc, &receipt, cells) {
         Ok(true) => Ok(Some(receipt)),
         Ok(false) => Ok(None),
-        Err(_) => Err(AskFault::NoMemory),
+        Err(lack) => Err(AskFault::NoMemory(lack)),
     }
 }
 

@@ -184,7 +184,7 @@ module _ (cells : ℕ) (text front tail : List ℕ) (slot : ℕ) (id : List ℕ)
   -- reading them was given up
   pub fault_ends : (fault : ReceiptFault) → ListingEnds cells tail (Err fault) → ReadReceiptEnds cells text (Err fault)
   fault_ends (BadReceipt i) stuck = bad_line i stuck
-  fault_ends NoMemory wanting = wanting
+  fault_ends (NoMemory lack) wanting = wanting
 
   -- the cells and the line of the end, with what is behind
   whole_text : (listing : Listing) → IsListing cells tail listing

@@ -78,7 +78,7 @@ pub record LimitsAreNumbers : Type 0 where
 -- what a fault of a receipt's text is to a command
 abbrev pub refusal_of_receipt : ReceiptFault → Refusal
 refusal_of_receipt (BadReceipt i) = refusals.BadReceipt i
-refusal_of_receipt NoMemory = refusals.NoMemory
+refusal_of_receipt (NoMemory lack) = refusals.NoMemory
 
 -- a text spells one receipt
 abbrev pub TextsAreOne : Type 0

@@ -52,11 +52,11 @@ pub record IsListing (size : ℕ) (text : List ℕ) (listing : Listing) : Type 0
 abbrev pub ListingEnds : ℕ → List ℕ → Result Listing ReceiptFault → Type 0
 ListingEnds size text (Ok listing) = IsListing size text listing
 ListingEnds size text (Err (BadReceipt i)) = IsStuck size text i
-ListingEnds size text (Err NoMemory) = ⊤
+ListingEnds size text (Err (NoMemory lack)) = ⊤
 
 -- How reading a receipt may end, and why: it is the one that the text spells, or the first line that breaks the form is
 -- named. Memory may be wanting.
 abbrev pub ReadReceiptEnds : ℕ → List ℕ → Result Receipt ReceiptFault → Type 0
 ReadReceiptEnds cells text (Ok r) = IsReceiptOn cells r × (text ≡ text_of_receipt r)
 ReadReceiptEnds cells text (Err (BadReceipt i)) = IsFirstBadLine cells text i
-ReadReceiptEnds cells text (Err NoMemory) = ⊤
+ReadReceiptEnds cells text (Err (NoMemory lack)) = ⊤

@@ -6,8 +6,8 @@ ghost use Rattle.receipt_text.specs.Form.{cell_line, text_of_lines};
 ghost use Rattle.receipt_text.specs.Listed.{AreListed, ListsAlso, listed_image};
 
 use crate::printing::{line_of_cell, print_line};
-use cell_types::{Cell, NoMemory};
-use std::alloc::{AllocError, Global};
+use cell_types::{Cell, NoMemory, memory};
+use std::alloc::Global;
 use std::collections::BTreeMap;
 use std::marker::Model;
 
@@ -54,9 +54,7 @@ impl ListedCells {
     {
         // Known of a cell once its bytes are asked for: there are sixteen, and not all of them are zero.
         let _bytes = value.bytes();
-        let Ok(_replaced) = self.cells.insert(at, value) else {
-            return Err(NoMemory);
-        };
+        let _replaced = memory::insert(&mut self.cells, at, value)?;
         Ok(())
     }
 
@@ -90,7 +88,7 @@ impl ListedCells {
     }
 
     /// Appends the line of each cell to the text. Without memory some of them may be missing.
-    pub(crate) fn print(&self, alloc: Global, text: &mut Vec<u8>) -> Result<(), AllocError>
+    pub(crate) fn print(&self, alloc: Global, text: &mut Vec<u8>) -> Result<(), NoMemory>
         ensures { OnOk result (text.new.items ≡ text.old.items ++ text_of_lines (map cell_line self.now)) }
     {
         for (at, value) in self.cells.iter() {

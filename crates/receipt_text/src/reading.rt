@@ -3,6 +3,7 @@ ghost use Rattle.receipt_text.specs.Reading.{ListingEnds, ReadReceiptEnds};
 
 use crate::lines::{cell_within, cut_at, head_of, is_end_line};
 use crate::{ListedCells, MAX_RECEIPT_CELLS, Receipt, ReceiptFault};
+use cell_types::memory;
 use document_store::Text;
 use std::alloc::Global;
 
@@ -33,9 +34,7 @@ pub fn read_receipt(alloc: Global, text: &[u8], cells: u32) -> Result<Receipt, R
     if !listing.behind.is_empty() {
         return Err(ReceiptFault::BadReceipt(listing.count + 3));
     }
-    let Ok(identifier) = Vec::from_slice(alloc, head.identifier) else {
-        return Err(ReceiptFault::NoMemory);
-    };
+    let identifier = memory::from_slice(alloc, head.identifier)?;
     Ok(Receipt {
         slot: head.slot,
         identifier: Text::new(identifier),
@@ -64,9 +63,7 @@ fn read_cells(alloc: Global, text: &[u8], size: u32) -> Result<Listing<'_>, Rece
         let Some(found) = cell_within(cut.front, next, size) else {
             return Err(ReceiptFault::BadReceipt(count + 2));
         };
-        let Ok(()) = cells.add(found.at, found.value) else {
-            return Err(ReceiptFault::NoMemory);
-        };
+        cells.add(found.at, found.value)?;
         next = found.at + 1;
         rest = cut.rest;
     }

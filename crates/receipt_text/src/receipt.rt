@@ -1,9 +1,10 @@
 //! A receipt, and why a text is none.
 ghost use Rattle.std.specs.Prelude.{◌≡◌};
 ghost use Rattle.receipt_text.specs.Form.{refusal_of_receipt};
+ghost use Rattle.receipt_text.specs.declared.receipt.ReceiptFault.TheVariants as faults;
 
 use crate::ListedCells;
-use cell_types::Refusal;
+use cell_types::{NoMemory, Refusal};
 use document_store::Text;
 
 /// The greatest number of cells that a receipt may have.
@@ -27,7 +28,15 @@ pub enum ReceiptFault {
     /// does not have.
     BadReceipt(u32),
     /// No memory was to be had.
-    NoMemory,
+    NoMemory(NoMemory),
+}
+
+impl From<NoMemory> for ReceiptFault {
+    ghost from_gives = { λ lack fault. fault ≡ faults.NoMemory lack };
+
+    fn from(lack: NoMemory) -> ReceiptFault {
+        ReceiptFault::NoMemory(lack)
+    }
 }
 
 impl From<ReceiptFault> for Refusal {
@@ -36,7 +45,7 @@ impl From<ReceiptFault> for Refusal {
     fn from(fault: ReceiptFault) -> Refusal {
         match fault {
             ReceiptFault::BadReceipt(line) => Refusal::BadReceipt(line),
-            ReceiptFault::NoMemory => Refusal::NoMemory,
+            ReceiptFault::NoMemory(lack) => Refusal::from(lack),
         }
     }
 }

@@ -97,7 +97,7 @@ unpushed old now new start bytes q r h m n o k seeks.Broken so_far less ends = (
 )
 unpushed old now new start bytes q r h m n o k seeks.ReadFault so_far less ends =
     omega (arith, so_far.read.faults, ends)
-unpushed old now new start bytes q r h m n o k seeks.NoMemory so_far less ends = ends ∙ so_far.read.faults
+unpushed old now new start bytes q r h m n o k (seeks.NoMemory lack) so_far less ends = ends ∙ so_far.read.faults
 
 -- the first row was not read: a part without a cell holds no document, nor one with a broken cell
 pub first_unread : (start bytes : ℕ) (old new : ViewState) (p q : Position) (into : List ℕ) (fault : ContentFault)

@@ -43,7 +43,7 @@ abbrev pub SeekFails : ℕ → ℕ → ViewState → ViewState → SeekFault →
 SeekFails start bytes old new seeks.Broken =
     (new.base.faults ≡ old.base.faults) × (IsTrue old.base.tells → SpellsNone old.image start bytes)
 SeekFails start bytes old new seeks.ReadFault = Rose old.base.faults new.base.faults
-SeekFails start bytes old new seeks.NoMemory = new.base.faults ≡ old.base.faults
+SeekFails start bytes old new (seeks.NoMemory lack) = new.base.faults ≡ old.base.faults
 
 -- these many bytes, the next ones of a part, were read and pushed
 pub record Pushes (v w : ViewState) (p q : Position) (m n : Matcher) (count : ℕ) : Type 0 where
@@ -65,7 +65,7 @@ PushNextEnds v w p q m n (Err seeks.Broken) =
     × ((start bytes : ℕ) (given : List ℕ) → HasRead v start bytes p given → length given < bytes
     → IsTrue v.base.tells → HasBroken v.image start bytes)
 PushNextEnds v w p q m n (Err seeks.ReadFault) = Rose v.base.faults w.base.faults
-PushNextEnds v w p q m n (Err seeks.NoMemory) = w.base.faults ≡ v.base.faults
+PushNextEnds v w p q m n (Err (seeks.NoMemory lack)) = w.base.faults ≡ v.base.faults
 
 -- a document was read that has the terms of a matcher
 pub record ReadMatch (v : ViewState) (start bytes : ℕ) (m : Matcher) (h : Head) : Type 0 where

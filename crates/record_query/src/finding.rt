@@ -10,11 +10,11 @@ ghost use Rattle.record_query.specs.Matching.{IsMatcherOf, KeepsTerms, SlotEnds}
 use crate::common::common_slots;
 use crate::found::Match;
 use crate::matching::match_in;
-use cell_types::{Refusal, Volume};
+use cell_types::{NoMemory, Refusal, Volume, memory};
 use document_store::ROW_BYTES;
 use posting_list::{SoughtTerms, kept_are_owed};
 use recovery_engine::settle;
-use std::alloc::{AllocError, Global};
+use std::alloc::Global;
 use volume_meaning::rule_of;
 use word_reader::{Matcher, Term};
 use worm_device::{Device, Direct};
@@ -96,12 +96,12 @@ fn match_on_device<D: Device>(
 }
 
 /// Adds what was found.
-fn keep(matches: &mut Vec<Match>, found: Option<Match>) -> Result<(), AllocError>
+fn keep(matches: &mut Vec<Match>, found: Option<Match>) -> Result<(), NoMemory>
     ensures { IfOk result (λ _. matches.new.items ≡ added found matches.old.items) }
 {
     let Some(one) = found else {
         return Ok(());
     };
-    matches.push(one)?;
+    memory::push(matches, one)?;
     Ok(())
 }

@@ -28,7 +28,7 @@ pub(crate) enum SeekFault {
     /// A read failed.
     ReadFault,
     /// No memory was to be had.
-    NoMemory,
+    NoMemory(NoMemory),
 }
 
 impl From<ContentFault> for SeekFault {
@@ -43,10 +43,10 @@ impl From<ContentFault> for SeekFault {
 }
 
 impl From<NoMemory> for SeekFault {
-    ghost from_gives = { λ _ result. result ≡ seeks.NoMemory };
+    ghost from_gives = { λ lack result. result ≡ seeks.NoMemory lack };
 
-    fn from(_: NoMemory) -> SeekFault {
-        SeekFault::NoMemory
+    fn from(lack: NoMemory) -> SeekFault {
+        SeekFault::NoMemory(lack)
     }
 }
 
@@ -99,7 +99,7 @@ fn match_part<V: View>(
         Ok(found) => found,
         Err(SeekFault::Broken) => return Err(Refusal::from(name_commit(geometry, part))),
         Err(SeekFault::ReadFault) => return Err(Refusal::DeviceFault),
-        Err(SeekFault::NoMemory) => return Err(Refusal::NoMemory),
+        Err(SeekFault::NoMemory(lack)) => return Err(Refusal::from(lack)),
     };
     let Some(head) = found else {
         return Ok(None);

@@ -122,7 +122,7 @@ stored b r f p cells reads faults parts (Some t) (Some u) id stamp body slot sin
 not_stored : (fault : BodyFault) → WasStored (Err (refusal_of_body_fault fault)) → ⊥
 not_stored faults.TooLong h = h
 not_stored faults.SourceFailed h = h
-not_stored faults.NoMemory h = h
+not_stored (faults.NoMemory lack) h = h
 
 module _ (b r f p cells reads faults parts : ℕ) (told told' : Option Told) (id : List ℕ) (stamp : Option ℕ)
     (source source' : SourceState) (sink sink' : SinkState)

@@ -37,7 +37,7 @@ module _ (old new : Ports) where
       → (refusals.TooLong ≡ other → ⊥) → (refusals.SourceFault ≡ other → ⊥) → (refusals.NoMemory ≡ other → ⊥) → ⊥
   no_fault other faults.TooLong e long failed memory = long e
   no_fault other faults.SourceFailed e long failed memory = failed e
-  no_fault other faults.NoMemory e long failed memory = memory e
+  no_fault other (faults.NoMemory lack) e long failed memory = memory e
 
   -- what is told of a replay is no other refusal than these
   told_is : (answer : Result (List Reply) Refusal) (script : Script) (other : Refusal) → ReplayEnds script answer

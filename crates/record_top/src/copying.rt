@@ -80,9 +80,7 @@ fn copy_volume<D: Device, E: Device, K: Sink, M: Meter>(
         Ok(moves) => moves,
         Err(refusal) => return Err(refusal),
     };
-    let Ok(text) = text_of(alloc, &moves) else {
-        return Err(CopyRefusal::NoMemory);
-    };
+    let text = text_of(alloc, &moves)?;
     match put_text(sink, &text) {
         Ok(()) => Ok(()),
         Err(_) => Err(CopyRefusal::SinkFault),

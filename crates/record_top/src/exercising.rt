@@ -29,10 +29,7 @@ pub fn exercise_volume<D: Device, S: Source, K: Sink>(
         (ports_of (D.state _device.old) (S.state _source.old) (K.state sink.old))
         (ports_of (D.state _device.new) (S.state _source.new) (K.state sink.new)) result }
 {
-    let Ok(mut device) = MemoryDevice::new(alloc, BASE_CELLS + CELLS_PER_DOCUMENT * documents)
-    else {
-        return Err(Refusal::NoMemory);
-    };
+    let mut device = MemoryDevice::new(alloc, BASE_CELLS + CELLS_PER_DOCUMENT * documents)?;
     exercise(alloc, documents, &mut device, sink)
 }
 
@@ -50,12 +47,8 @@ pub fn exercise<K: Sink>(
     ensures { ExerciseEnds documents (memory_of device.old) (memory_of device.new) (K.state sink.old) (K.state sink.new)
         result }
 {
-    let Ok(events) = exercise_events(alloc, documents) else {
-        return Err(Refusal::NoMemory);
-    };
-    let Ok(replies) = replay(alloc, &events, device) else {
-        return Err(Refusal::NoMemory);
-    };
+    let events = exercise_events(alloc, documents)?;
+    let replies = replay(alloc, &events, device)?;
     plain_is_done();
     acknowledged_are_returned();
     turns_are_marked();
@@ -63,9 +56,7 @@ pub fn exercise<K: Sink>(
     if let Some(refusal) = first_refusal(&replies) {
         return Err(refusal);
     }
-    let Ok(text) = text_of(alloc, documents, &replies) else {
-        return Err(Refusal::NoMemory);
-    };
+    let text = text_of(alloc, documents, &replies)?;
     let Ok(()) = put_all(sink, text.as_bytes()) else {
         return Err(Refusal::SinkFault);
     };

@@ -66,7 +66,7 @@ fn each_kind_has_its_line(rt: HostRuntime) -> Result<(), Fail> {
         Reply::Settled(Step::Abandoned(4)),
         Reply::ForeignDone,
         Reply::ForeignTaken(found),
-        Reply::Refused(Refusal::NoMemory),
+        Reply::Refused(Refusal::Absent),
     ];
     let expected = "1 0 acknowledged 16777215
 2 4 tampered 2 5 04000000000000000000000000000005
@@ -78,7 +78,7 @@ fn each_kind_has_its_line(rt: HostRuntime) -> Result<(), Fail> {
 8 0 slot 4 abandoned
 9 0 done
 10 0 taken 04000000000000000000000000000005
-11 8 refused
+11 10 refused
 ";
     assert!(rt; prints(alloc, &replies, expected)?);
     Ok(())

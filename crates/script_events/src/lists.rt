@@ -8,8 +8,9 @@ ghost use Rattle.script_events.specs.Json.{AreItems, Exactly, IsArrayOf, IsNumbe
 use crate::event::Timed;
 use crate::sequence::Sequence;
 use crate::values::{moment, number, timed};
+use cell_types::{NoMemory, memory};
 use serde_json::Value;
-use std::alloc::{AllocError, Global};
+use std::alloc::Global;
 use worm_memory::Moment;
 
 /// How many items the array has.
@@ -26,7 +27,7 @@ pub(crate) fn moments(
     alloc: Global,
     value: &Value,
     most: usize,
-) -> Result<Option<Sequence<Moment>>, AllocError>
+) -> Result<Option<Sequence<Moment>>, NoMemory>
     ensures { IfOk result (Exactly (λ found. IsArrayOf SaysMoment 0 most found (view value.now))) }
 {
     let Some(array) = value.as_array() else {
@@ -39,7 +40,7 @@ pub(crate) fn moments(
 }
 
 /// The moments that these are.
-fn moments_in(alloc: Global, array: &Vec<Value>) -> Result<Option<Sequence<Moment>>, AllocError>
+fn moments_in(alloc: Global, array: &Vec<Value>) -> Result<Option<Sequence<Moment>>, NoMemory>
     ensures { IfOk result (Exactly (λ found. AreItems SaysMoment found (items_view array.now.items))) }
 {
     let mut found = Vec::new(alloc);
@@ -47,7 +48,7 @@ fn moments_in(alloc: Global, array: &Vec<Value>) -> Result<Option<Sequence<Momen
         let Some(next) = moment(value) else {
             return Ok(None);
         };
-        found.push(next)?;
+        memory::push(&mut found, next)?;
     }
     Ok(Some(Sequence::new(found)))
 }
@@ -58,7 +59,7 @@ pub(crate) fn planned_writes(
     value: &Value,
     most: usize,
     cells: u32,
-) -> Result<Option<Sequence<Timed>>, AllocError>
+) -> Result<Option<Sequence<Timed>>, NoMemory>
     ensures { IfOk result (Exactly (λ found. IsArrayOf (SaysTimed cells) 0 most found (view value.now))) }
 {
     let Some(array) = value.as_array() else {
@@ -75,7 +76,7 @@ fn planned_writes_in(
     alloc: Global,
     array: &Vec<Value>,
     cells: u32,
-) -> Result<Option<Sequence<Timed>>, AllocError>
+) -> Result<Option<Sequence<Timed>>, NoMemory>
     ensures { IfOk result (Exactly (λ found. AreItems (SaysTimed cells) found (items_view array.now.items))) }
 {
     let mut found = Vec::new(alloc);
@@ -83,7 +84,7 @@ fn planned_writes_in(
         let Some(next) = timed(value, cells) else {
             return Ok(None);
         };
-        found.push(next)?;
+        memory::push(&mut found, next)?;
     }
     Ok(Some(Sequence::new(found)))
 }
@@ -93,7 +94,7 @@ pub(crate) fn numbers(
     alloc: Global,
     value: &Value,
     most: usize,
-) -> Result<Option<Sequence<u32>>, AllocError>
+) -> Result<Option<Sequence<u32>>, NoMemory>
     ensures { IfOk result (Exactly (λ found. IsArrayOf (IsNumberIn 0 (2 ^ 32 - 1)) 0 most found (view value.now))) }
 {
     let Some(array) = value.as_array() else {
@@ -106,7 +107,7 @@ pub(crate) fn numbers(
 }
 
 /// The numbers that these are.
-fn numbers_in(alloc: Global, array: &Vec<Value>) -> Result<Option<Sequence<u32>>, AllocError>
+fn numbers_in(alloc: Global, array: &Vec<Value>) -> Result<Option<Sequence<u32>>, NoMemory>
     ensures { IfOk result (Exactly (λ found. AreItems (IsNumberIn 0 (2 ^ 32 - 1)) found (items_view array.now.items))) }
 {
     let mut found = Vec::new(alloc);
@@ -114,7 +115,7 @@ fn numbers_in(alloc: Global, array: &Vec<Value>) -> Result<Option<Sequence<u32>>
         let Some(next) = number(value, 0, u32::MAX) else {
             return Ok(None);
         };
-        found.push(next)?;
+        memory::push(&mut found, next)?;
     }
     Ok(Some(Sequence::new(found)))
 }

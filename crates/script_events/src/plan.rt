@@ -10,12 +10,13 @@ use crate::limits::{MAX_FAILING, MAX_FOREIGN_WRITES};
 use crate::lists::{moments, planned_writes};
 use crate::sequence::Sequence;
 use crate::values::moment;
+use cell_types::NoMemory;
 use serde_json::Value;
-use std::alloc::{AllocError, Global};
+use std::alloc::Global;
 use worm_memory::Moment;
 
 /// The plan that is among the members.
-pub(crate) fn plan(alloc: Global, value: &Value, cells: u32) -> Result<Option<Schedule>, AllocError>
+pub(crate) fn plan(alloc: Global, value: &Value, cells: u32) -> Result<Option<Schedule>, NoMemory>
     ensures { IfOk result (Exactly (λ plan. SaysPlan cells plan (view value.now))) }
 {
     let Some(stop) = stop(value) else {
@@ -48,7 +49,7 @@ fn stop(value: &Value) -> Option<Option<Moment>>
 }
 
 /// The moments whose calls fail.
-fn fail(alloc: Global, value: &Value) -> Result<Option<Sequence<Moment>>, AllocError>
+fn fail(alloc: Global, value: &Value) -> Result<Option<Sequence<Moment>>, NoMemory>
     ensures { IfOk result (Exactly (λ fail. HasArray (codes "fail") SaysMoment MAX_FAILING fail (view value.now))) }
 {
     match value.get("fail") {
@@ -58,7 +59,7 @@ fn fail(alloc: Global, value: &Value) -> Result<Option<Sequence<Moment>>, AllocE
 }
 
 /// What others write before which calls.
-fn foreign(alloc: Global, value: &Value, cells: u32) -> Result<Option<Sequence<Timed>>, AllocError>
+fn foreign(alloc: Global, value: &Value, cells: u32) -> Result<Option<Sequence<Timed>>, NoMemory>
     ensures { IfOk result (Exactly (λ foreign. HasArray (codes "foreign") (SaysTimed cells) MAX_FOREIGN_WRITES foreign
         (view value.now))) }
 {

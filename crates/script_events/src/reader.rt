@@ -10,8 +10,9 @@ ghost use Rattle.script_events.specs.Json.{Exactly};
 use crate::event::Event;
 use crate::kind::{EventKind, kind_of};
 use crate::rows::{crash, find, foreign, format, ingest, lookup, plan_alone};
+use cell_types::NoMemory;
 use serde_json::Value;
-use std::alloc::{AllocError, Global};
+use std::alloc::Global;
 use volume_meaning::rule_of;
 
 /// The event that the value is.
@@ -20,7 +21,7 @@ pub(crate) fn event(
     value: &Value,
     cells: u32,
     version: u8,
-) -> Result<Option<Event>, AllocError>
+) -> Result<Option<Event>, NoMemory>
     requires from { FIRST_VERSION ≤ version }
     requires to { version ≤ NEWEST_VERSION }
     ensures { IfOk result (Exactly (λ event. SaysEvent cells version event (view value.now))) }
@@ -46,7 +47,7 @@ fn format_event(
     value: &Value,
     cells: u32,
     version: u8,
-) -> Result<Option<Event>, AllocError>
+) -> Result<Option<Event>, NoMemory>
     requires { get (codes "do") (view value.now) ≡ Some (string (codes "format")) }
     ensures { IfOk result (Exactly (λ event. SaysEvent cells version event (view value.now))) }
 {
@@ -67,7 +68,7 @@ fn ingest_event(
     value: &Value,
     cells: u32,
     version: u8,
-) -> Result<Option<Event>, AllocError>
+) -> Result<Option<Event>, NoMemory>
     requires { get (codes "do") (view value.now) ≡ Some (string (codes "ingest")) }
     ensures { IfOk result (Exactly (λ event. SaysEvent cells version event (view value.now))) }
 {
@@ -88,7 +89,7 @@ fn find_event(
     value: &Value,
     cells: u32,
     version: u8,
-) -> Result<Option<Event>, AllocError>
+) -> Result<Option<Event>, NoMemory>
     requires from { FIRST_VERSION ≤ version }
     requires to { version ≤ NEWEST_VERSION }
     requires said { get (codes "do") (view value.now) ≡ Some (string (codes "find")) }
@@ -106,7 +107,7 @@ fn lookup_event(
     value: &Value,
     cells: u32,
     version: u8,
-) -> Result<Option<Event>, AllocError>
+) -> Result<Option<Event>, NoMemory>
     requires { get (codes "do") (view value.now) ≡ Some (string (codes "lookup")) }
     ensures { IfOk result (Exactly (λ event. SaysEvent cells version event (view value.now))) }
 {
@@ -122,7 +123,7 @@ fn audit_event(
     value: &Value,
     cells: u32,
     version: u8,
-) -> Result<Option<Event>, AllocError>
+) -> Result<Option<Event>, NoMemory>
     requires { get (codes "do") (view value.now) ≡ Some (string (codes "audit")) }
     ensures { IfOk result (Exactly (λ event. SaysEvent cells version event (view value.now))) }
 {
@@ -138,7 +139,7 @@ fn recover_event(
     value: &Value,
     cells: u32,
     version: u8,
-) -> Result<Option<Event>, AllocError>
+) -> Result<Option<Event>, NoMemory>
     requires { get (codes "do") (view value.now) ≡ Some (string (codes "recover")) }
     ensures { IfOk result (Exactly (λ event. SaysEvent cells version event (view value.now))) }
 {
@@ -165,7 +166,7 @@ fn crash_event(
     value: &Value,
     cells: u32,
     version: u8,
-) -> Result<Option<Event>, AllocError>
+) -> Result<Option<Event>, NoMemory>
     requires { get (codes "do") (view value.now) ≡ Some (string (codes "crash")) }
     ensures { IfOk result (Exactly (λ event. SaysEvent cells version event (view value.now))) }
 {

@@ -12,10 +12,10 @@ use crate::plan::plan;
 use crate::sequence::Sequence;
 use crate::texts::{body, identifier, terms};
 use crate::values::{cell, number, number_below};
-use cell_types::{Cell, MAX_LISTS, MAX_SLOTS};
+use cell_types::{Cell, MAX_LISTS, MAX_SLOTS, NoMemory};
 use document_store::Text;
 use serde_json::Value;
-use std::alloc::{AllocError, Global};
+use std::alloc::Global;
 use volume_meaning::WordRule;
 use word_reader::Term;
 
@@ -24,7 +24,7 @@ pub(crate) fn format(
     alloc: Global,
     value: &Value,
     cells: u32,
-) -> Result<Option<(u32, u16, Schedule)>, AllocError>
+) -> Result<Option<(u32, u16, Schedule)>, NoMemory>
     ensures { IfOk result (Exactly (λ said. SaysFormat cells said.0 said.1 said.2 (view value.now))) }
 {
     if !has_only(value, &["do", "slots", "lists", "stop", "fail", "foreign"]) {
@@ -53,7 +53,7 @@ pub(crate) fn ingest(
     alloc: Global,
     value: &Value,
     cells: u32,
-) -> Result<Option<(Text, Option<u32>, Text, Schedule)>, AllocError>
+) -> Result<Option<(Text, Option<u32>, Text, Schedule)>, NoMemory>
     ensures { IfOk result (Exactly (λ said.
         SaysIngest cells said.0 said.1 said.2 said.3 (view value.now))) }
 {
@@ -102,7 +102,7 @@ pub(crate) fn find(
     value: &Value,
     cells: u32,
     rule: WordRule,
-) -> Result<Option<(Sequence<Term>, Schedule)>, AllocError>
+) -> Result<Option<(Sequence<Term>, Schedule)>, NoMemory>
     ensures { IfOk result (Exactly (λ said. SaysFind cells rule said.0 said.1 (view value.now))) }
 {
     if !has_only(value, &["do", "words", "stop", "fail", "foreign"]) {
@@ -125,7 +125,7 @@ pub(crate) fn lookup(
     alloc: Global,
     value: &Value,
     cells: u32,
-) -> Result<Option<(Text, Schedule)>, AllocError>
+) -> Result<Option<(Text, Schedule)>, NoMemory>
     ensures { IfOk result (Exactly (λ said. SaysLookup cells said.0 said.1 (view value.now))) }
 {
     if !has_only(value, &["do", "id", "stop", "fail", "foreign"]) {
@@ -148,7 +148,7 @@ pub(crate) fn plan_alone(
     alloc: Global,
     value: &Value,
     cells: u32,
-) -> Result<Option<Schedule>, AllocError>
+) -> Result<Option<Schedule>, NoMemory>
     ensures { IfOk result (Exactly (λ plan. SaysPlanAlone cells plan (view value.now))) }
 {
     if !has_only(value, &["do", "stop", "fail", "foreign"]) {
@@ -180,7 +180,7 @@ pub(crate) fn foreign(value: &Value, cells: u32) -> Option<(u32, Cell)>
 }
 
 /// The cells that a `crash` keeps.
-pub(crate) fn crash(alloc: Global, value: &Value) -> Result<Option<Sequence<u32>>, AllocError>
+pub(crate) fn crash(alloc: Global, value: &Value) -> Result<Option<Sequence<u32>>, NoMemory>
     ensures { IfOk result (Exactly (λ keep. SaysCrash keep (view value.now))) }
 {
     if !has_only(value, &["do", "keep"]) {

@@ -16,7 +16,7 @@ use crate::members::has_only;
 use crate::reader::event;
 use crate::sequence::Sequence;
 use crate::values::number;
-use cell_types::{FIRST_VERSION, NEWEST_VERSION, Refusal};
+use cell_types::{FIRST_VERSION, NEWEST_VERSION, NoMemory, Refusal, memory};
 use serde_json::Value;
 use std::alloc::Global;
 
@@ -31,7 +31,7 @@ pub fn read_script(alloc: Global, text: &[u8]) -> Result<Script, Refusal>
         Ok(value) => value,
         Err(error) => {
             if error.is_memory() {
-                return Err(Refusal::NoMemory);
+                return Err(Refusal::from(memory::lacked_elsewhere()));
             }
             return Err(Refusal::BadScript(0));
         }
@@ -111,15 +111,10 @@ fn events(
     let mut found = Vec::new(alloc);
     let mut passed = 0;
     for value in array {
-        let Ok(next) = event(alloc, value, cells, version) else {
-            return Err(Refusal::NoMemory);
-        };
-        let Some(next) = next else {
+        let Some(next) = event(alloc, value, cells, version)? else {
             return Err(Refusal::BadScript(passed + 1));
         };
-        let Ok(()) = found.push(next) else {
-            return Err(Refusal::NoMemory);
-        };
+        memory::push(&mut found, next)?;
         passed += 1;
     }
     Ok(Sequence::new(found))

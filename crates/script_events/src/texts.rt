@@ -11,15 +11,16 @@ ghost use Rattle.script_events.specs.declared.limits.TheConstants.{MAX_WORDS};
 use crate::limits::MAX_WORDS;
 use crate::lists::count;
 use crate::sequence::Sequence;
+use cell_types::{NoMemory, memory};
 use document_store::{Text, is_identifier};
 use hex::FromHexError;
 use serde_json::Value;
-use std::alloc::{AllocError, Global};
+use std::alloc::Global;
 use volume_meaning::{MAX_BODY_BYTES, WordRule};
 use word_reader::{Term, WordFault, single_term};
 
 /// The identifier that the value is.
-pub(crate) fn identifier(alloc: Global, value: &Value) -> Result<Option<Text>, AllocError>
+pub(crate) fn identifier(alloc: Global, value: &Value) -> Result<Option<Text>, NoMemory>
     ensures { IfOk result (Exactly (λ id. SaysIdentifier id (view value.now))) }
 {
     let Some(text) = value.as_str() else {
@@ -28,11 +29,11 @@ pub(crate) fn identifier(alloc: Global, value: &Value) -> Result<Option<Text>, A
     if !is_identifier(text.as_bytes()) {
         return Ok(None);
     }
-    Ok(Some(Text::new(text.as_bytes().to_vec(alloc)?)))
+    Ok(Some(Text::new(memory::from_slice(alloc, text.as_bytes())?)))
 }
 
 /// The body that the members say.
-pub(crate) fn body(alloc: Global, value: &Value) -> Result<Option<Text>, AllocError>
+pub(crate) fn body(alloc: Global, value: &Value) -> Result<Option<Text>, NoMemory>
     ensures { IfOk result (Exactly (λ body. SaysBody body (view value.now))) }
 {
     match (value.get("body"), value.get("hex")) {
@@ -43,18 +44,18 @@ pub(crate) fn body(alloc: Global, value: &Value) -> Result<Option<Text>, AllocEr
 }
 
 /// The body that the value is.
-fn plain_body(alloc: Global, value: &Value) -> Result<Option<Text>, AllocError>
+fn plain_body(alloc: Global, value: &Value) -> Result<Option<Text>, NoMemory>
     ensures { IfOk result (Exactly (λ body. IsBody body × (view value.now ≡ string body))) }
 {
     let Some(text) = value.as_str() else {
         return Ok(None);
     };
-    let bytes = text.as_bytes().to_vec(alloc)?;
+    let bytes = memory::from_slice(alloc, text.as_bytes())?;
     Ok(body_of(Text::new(bytes)))
 }
 
 /// The body that the value spells in hexadecimal.
-fn hex_body(alloc: Global, value: &Value) -> Result<Option<Text>, AllocError>
+fn hex_body(alloc: Global, value: &Value) -> Result<Option<Text>, NoMemory>
     ensures { IfOk result (Exactly (λ body. IsBody body × SaysBytes body (view value.now))) }
 {
     let Some(bytes) = hex_bytes(alloc, value)? else {
@@ -75,7 +76,7 @@ fn body_of(bytes: Text) -> Option<Text>
 }
 
 /// The bytes that the value spells in hexadecimal.
-fn hex_bytes(alloc: Global, value: &Value) -> Result<Option<Text>, AllocError>
+fn hex_bytes(alloc: Global, value: &Value) -> Result<Option<Text>, NoMemory>
     ensures { IfOk result (Exactly (λ bytes. SaysBytes bytes (view value.now))) }
 {
     let Some(text) = value.as_str() else {
@@ -83,7 +84,7 @@ fn hex_bytes(alloc: Global, value: &Value) -> Result<Option<Text>, AllocError>
     };
     match hex::decode(alloc, text.as_bytes()) {
         Ok(bytes) => Ok(Some(Text::new(bytes))),
-        Err(FromHexError::OutOfMemory) => Err(AllocError),
+        Err(FromHexError::OutOfMemory) => Err(memory::lacked_elsewhere()),
         Err(_) => Ok(None),
     }
 }
@@ -93,7 +94,7 @@ pub(crate) fn terms(
     alloc: Global,
     value: &Value,
     rule: WordRule,
-) -> Result<Option<Sequence<Term>>, AllocError>
+) -> Result<Option<Sequence<Term>>, NoMemory>
     ensures { IfOk result (Exactly (λ terms. IsArrayOf (SaysTerm rule) 1 MAX_WORDS terms (view value.now))) }
 {
     let Some(array) = value.as_array() else {
@@ -114,7 +115,7 @@ fn terms_in(
     alloc: Global,
     array: &Vec<Value>,
     rule: WordRule,
-) -> Result<Option<Sequence<Term>>, AllocError>
+) -> Result<Option<Sequence<Term>>, NoMemory>
     ensures { IfOk result (Exactly (λ terms. AreItems (SaysTerm rule) terms (items_view array.now.items))) }
 {
     let mut found = Vec::new(alloc);
@@ -122,13 +123,13 @@ fn terms_in(
         let Some(next) = term(alloc, value, rule)? else {
             return Ok(None);
         };
-        found.push(next)?;
+        memory::push(&mut found, next)?;
     }
     Ok(Some(Sequence::new(found)))
 }
 
 /// The one term of the word that the value is.
-fn term(alloc: Global, value: &Value, rule: WordRule) -> Result<Option<Term>, AllocError>
+fn term(alloc: Global, value: &Value, rule: WordRule) -> Result<Option<Term>, NoMemory>
     ensures { IfOk result (Exactly (λ term. SaysTerm rule term (view value.now))) }
 {
     let Some(text) = value.as_str() else {
@@ -138,12 +139,12 @@ fn term(alloc: Global, value: &Value, rule: WordRule) -> Result<Option<Term>, Al
 }
 
 /// The one term of a word.
-fn term_of(alloc: Global, word: &[u8], rule: WordRule) -> Result<Option<Term>, AllocError>
+fn term_of(alloc: Global, word: &[u8], rule: WordRule) -> Result<Option<Term>, NoMemory>
     ensures { IfOk result (Exactly (λ term. AreWords rule word.now (term ∷ []))) }
 {
     match single_term(alloc, word, rule) {
         Ok(term) => Ok(Some(term)),
         Err(WordFault::BadWord) => Ok(None),
-        Err(WordFault::NoMemory) => Err(AllocError),
+        Err(WordFault::NoMemory(lack)) => Err(lack),
     }
 }

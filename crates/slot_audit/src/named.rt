@@ -8,7 +8,7 @@ ghost use Rattle.slot_audit.specs.Strays.{AreNamed};
 ghost use Rattle.slot_audit.specs.Targets.{AddsTargets};
 
 use crate::copies::target_at;
-use cell_types::NoMemory;
+use cell_types::{NoMemory, memory};
 use log_audit::{KeptCells, KeptVolume, StoredSlot};
 use std::alloc::Global;
 
@@ -57,9 +57,7 @@ fn push_targets(kept: &KeptCells, stored: &StoredSlot, cells: &mut Vec<u32>) -> 
         let Some(target) = target_at(kept, first + place) else {
             continue;
         };
-        let Ok(()) = cells.push(target) else {
-            return Err(NoMemory);
-        };
+        memory::push(cells, target)?;
     }
     Ok(())
 }

@@ -7,7 +7,7 @@ ghost use Rattle.log_audit.specs.Stored.{FitsInSlot};
 ghost use Rattle.slot_audit.specs.Tables.{HasAtLeast, IsTable, IsWithTile};
 
 use crate::tile::{Tile, tile_at};
-use cell_types::NoMemory;
+use cell_types::{NoMemory, memory};
 use log_audit::{KeptCells, StoredSlot};
 use std::alloc::Global;
 use std::collections::BTreeMap;
@@ -47,9 +47,7 @@ fn add_tile(tiles: &mut BTreeMap<u32, u32>, tile: Tile) -> Result<(), NoMemory>
     if has_at_least(tiles, tile) {
         return Ok(());
     }
-    let Ok(_before) = tiles.insert(tile.target, tile.size) else {
-        return Err(NoMemory);
-    };
+    let _before = memory::insert(tiles, tile.target, tile.size)?;
     Ok(())
 }
 

@@ -4,8 +4,9 @@ ghost use Rattle.term_tags.specs.Keys.{AreKeys, key_of, keys_of, list_in, tag_in
 ghost use Rattle.term_tags.specs.declared.keys.TheConstants.{PLACES};
 
 use crate::digests;
+use cell_types::{NoMemory, memory};
 use sha2::{Digest, Sha256};
-use std::alloc::{AllocError, Global};
+use std::alloc::Global;
 use word_reader::Term;
 
 /// How many tags there are: six bytes of them.
@@ -68,11 +69,11 @@ fn key_again(terms: &[Term], keys: &[u64], at: usize, term: &Term) -> Option<u64
 }
 
 /// The keys of the terms, in their order and with repeats. A term that came before is mostly not digested again.
-fn keys_of(alloc: Global, terms: &[Term], lists: u16) -> Result<Vec<u64>, AllocError>
+fn keys_of(alloc: Global, terms: &[Term], lists: u16) -> Result<Vec<u64>, NoMemory>
     requires { 1 ≤ lists }
     ensures { IfOk result (λ keys. keys.items ≡ keys_of lists terms.now) }
 {
-    let mut keys = Vec::with_capacity(alloc, terms.len())?;
+    let mut keys = memory::with_capacity(alloc, terms.len())?;
     // Which of the terms was last seen for each place: any number does, since the terms are compared.
     let mut latest = [0; PLACES];
     for term in terms {
@@ -82,22 +83,18 @@ fn keys_of(alloc: Global, terms: &[Term], lists: u16) -> Result<Vec<u64>, AllocE
             None => key_of(term, lists),
         };
         latest[place] = keys.len();
-        keys.push(key)?;
+        memory::push(&mut keys, key)?;
     }
     Ok(keys)
 }
 
 /// The distinct keys of the terms, in rising order.
-pub(crate) fn distinct_keys(
-    alloc: Global,
-    terms: &[Term],
-    lists: u16,
-) -> Result<Vec<u64>, AllocError>
+pub(crate) fn distinct_keys(alloc: Global, terms: &[Term], lists: u16) -> Result<Vec<u64>, NoMemory>
     requires { 1 ≤ lists }
     ensures { IfOk result (λ keys. AreKeys lists terms.now keys.items) }
 {
     let mut keys = keys_of(alloc, terms, lists)?;
-    keys.sort()?;
+    memory::sort(&mut keys)?;
     keys.dedup();
     Ok(keys)
 }

@@ -6,8 +6,8 @@ ghost use Rattle.volume_meaning.specs.Postings.{time_posting};
 ghost use Rattle.term_tags.specs.Listing.{GivesNone, GivesListed, listed, time_entries};
 
 use crate::rows::{Posting, postings};
-use cell_types::Refusal;
-use std::alloc::{AllocError, Global};
+use cell_types::{NoMemory, Refusal, memory};
+use std::alloc::Global;
 use std::marker::Model;
 use word_reader::Term;
 
@@ -77,10 +77,8 @@ pub fn document_postings(
     ensures err { IfErr result (GivesNone lists terms.now) }
 {
     let of_words = postings(alloc, terms, lists)?;
-    match list_all(alloc, &of_words, lists, slot, stamp) {
-        Ok(rows) => Ok(rows),
-        Err(_) => Err(Refusal::NoMemory),
-    }
+    let rows = list_all(alloc, &of_words, lists, slot, stamp)?;
+    Ok(rows)
 }
 
 /// The postings of the words, and that of the stamp.
@@ -90,16 +88,16 @@ fn list_all(
     lists: u16,
     slot: u32,
     stamp: Option<u32>,
-) -> Result<Vec<ListedPosting>, AllocError>
+) -> Result<Vec<ListedPosting>, NoMemory>
     requires { slot < MAX_SLOTS }
     ensures { IfOk result (λ rows. rows.items ≡ map (listed slot) of_words.now ++ time_entries lists slot stamp) }
 {
-    let mut rows = Vec::with_capacity(alloc, of_words.len())?;
+    let mut rows = memory::with_capacity(alloc, of_words.len())?;
     for posting in of_words {
-        rows.push(list_one(posting, slot))?;
+        memory::push(&mut rows, list_one(posting, slot))?;
     }
     if let Some(seconds) = stamp {
-        rows.push(time_entry(lists, slot, seconds))?;
+        memory::push(&mut rows, time_entry(lists, slot, seconds))?;
     }
     Ok(rows)
 }

@@ -4,8 +4,8 @@ ghost use Rattle.term_tags.specs.Keys.{AreInLists};
 ghost use Rattle.term_tags.specs.Listing.{AreCounts, AllFit, GivesNone, GivesPostings, IsFirstOver, posting_rows};
 
 use crate::keys::{distinct_keys, list_in, tag_in};
-use cell_types::Refusal;
-use std::alloc::{AllocError, Global};
+use cell_types::{NoMemory, Refusal, memory};
+use std::alloc::Global;
 use word_reader::Term;
 
 /// How many distinct tags of one document a list gets at most, since an ordinal is one byte.
@@ -27,31 +27,23 @@ pub fn postings(alloc: Global, terms: &[Term], lists: u16) -> Result<Vec<Posting
     ensures ok { IfOk result (λ rows. GivesPostings lists terms.now rows.items) }
     ensures err { IfErr result (GivesNone lists terms.now) }
 {
-    let Ok(keys) = distinct_keys(alloc, terms, lists) else {
-        return Err(Refusal::NoMemory);
-    };
-    if keys.len() > u32::MAX as usize {
-        return Err(Refusal::NoMemory);
-    }
-    let Ok(counts) = count_each(alloc, &keys, lists) else {
-        return Err(Refusal::NoMemory);
-    };
+    let keys = distinct_keys(alloc, terms, lists)?;
+    memory::count_of(&keys)?;
+    let counts = count_each(alloc, &keys, lists)?;
     if let Some((list, count)) = first_over(&counts, lists) {
         return Err(Refusal::TooManyTerms { list, count });
     }
-    match rows(alloc, &keys, &counts, lists) {
-        Ok(rows) => Ok(rows),
-        Err(_) => Err(Refusal::NoMemory),
-    }
+    let rows = rows(alloc, &keys, &counts, lists)?;
+    Ok(rows)
 }
 
 /// How many of the keys each list has.
-fn count_each(alloc: Global, keys: &[u64], lists: u16) -> Result<Vec<u32>, AllocError>
+fn count_each(alloc: Global, keys: &[u64], lists: u16) -> Result<Vec<u32>, NoMemory>
     requires below { AreInLists lists keys.now }
     requires few { length keys.now < 2 ^ 32 }
     ensures { IfOk result (λ counts. AreCounts lists keys.now counts.items) }
 {
-    let mut counts = vec![in alloc; 0; usize::from(lists)]?;
+    let mut counts = memory::repeated(alloc, 0, usize::from(lists))?;
     for key in keys {
         counts[usize::from(list_in(*key))] += 1;
     }
@@ -74,24 +66,27 @@ fn first_over(counts: &[u32], lists: u16) -> Option<(u16, u32)>
 }
 
 /// The posting of each key, where each list has at most 256 of them.
-fn rows(alloc: Global, keys: &[u64], counts: &[u32], lists: u16) -> Result<Vec<Posting>, AllocError>
+fn rows(alloc: Global, keys: &[u64], counts: &[u32], lists: u16) -> Result<Vec<Posting>, NoMemory>
     requires below { AreInLists lists keys.now }
     requires counts { AreCounts lists keys.now counts.now }
     requires fit { AllFit counts.now lists }
     ensures { IfOk result (λ rows. rows.items ≡ posting_rows keys.now) }
 {
-    let mut rows = Vec::with_capacity(alloc, keys.len())?;
-    let mut given = vec![in alloc; 0; usize::from(lists)]?;
+    let mut rows = memory::with_capacity(alloc, keys.len())?;
+    let mut given = memory::repeated(alloc, 0, usize::from(lists))?;
     for key in keys {
         let list = list_in(*key);
         let at = usize::from(list);
         let ordinal: u16 = given[at];
-        rows.push(Posting {
-            list,
-            ordinal: ordinal as u8,
-            last: (counts[at] - 1) as u8,
-            tag: tag_in(*key),
-        })?;
+        memory::push(
+            &mut rows,
+            Posting {
+                list,
+                ordinal: ordinal as u8,
+                last: (counts[at] - 1) as u8,
+                tag: tag_in(*key),
+            },
+        )?;
         given[at] = ordinal + 1;
     }
     Ok(rows)

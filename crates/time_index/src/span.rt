@@ -9,7 +9,7 @@ use crate::found::TimeMatch;
 use crate::matching::{Stamped, match_of};
 use crate::postings::next_posting;
 use crate::stamped::check_stamps;
-use cell_types::{Refusal, STAMPED_VERSION};
+use cell_types::{Refusal, STAMPED_VERSION, memory};
 use jump_block::KeptFronts;
 use jump_index::Bounds;
 use posting_list::Reach;
@@ -122,9 +122,7 @@ fn gather<V: View>(
             slot: found.slot,
             seconds: found.seconds,
         });
-        let Ok(()) = matches.push(found) else {
-            return Err(Refusal::NoMemory);
-        };
+        memory::push(&mut matches, found)?;
         next = behind(entry.key, to);
     }
     Ok(matches)

@@ -7,7 +7,7 @@ ghost use Rattle.tree_audit.specs.Nodes.{AreNodes};
 
 use crate::looks::child_at;
 use crate::nodes::LevelNode;
-use cell_types::{Geometry, NoMemory};
+use cell_types::{Geometry, NoMemory, memory};
 use list_audit::ListBlock;
 use log_audit::{KeptCells, sort_once};
 use std::alloc::Global;
@@ -52,9 +52,7 @@ fn node_starts(alloc: Global, nodes: &[LevelNode]) -> Result<Vec<u64>, NoMemory>
 {
     let mut starts = Vec::new(alloc);
     for place in nodes {
-        let Ok(()) = starts.push(u64::from(place.node)) else {
-            return Err(NoMemory);
-        };
+        memory::push(&mut starts, u64::from(place.node))?;
     }
     sort_once(&mut starts);
     Ok(starts)
@@ -66,9 +64,7 @@ fn block_starts(alloc: Global, blocks: &[ListBlock]) -> Result<Vec<u64>, NoMemor
 {
     let mut starts = Vec::new(alloc);
     for listed in blocks {
-        let Ok(()) = starts.push(u64::from(listed.block)) else {
-            return Err(NoMemory);
-        };
+        memory::push(&mut starts, u64::from(listed.block))?;
     }
     sort_once(&mut starts);
     Ok(starts)
@@ -109,9 +105,7 @@ fn push_leads(
         let Some(target) = child_at(kept, geometry, cell) else {
             continue;
         };
-        let Ok(()) = leads.push(u64::from(target) * TARGET_STEP + u64::from(cell)) else {
-            return Err(NoMemory);
-        };
+        memory::push(leads, u64::from(target) * TARGET_STEP + u64::from(cell))?;
     }
     Ok(())
 }

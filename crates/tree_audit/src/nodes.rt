@@ -5,7 +5,7 @@ ghost use Rattle.log_audit.specs.Kept.{image_of_kept};
 ghost use Rattle.tree_audit.specs.Nodes.{AreNodesInside, AreNodes, AreOnLevel, AreUnder, AddsLevel, AddsChildTargets};
 
 use crate::looks::child_at;
-use cell_types::{Geometry, NoMemory};
+use cell_types::{Geometry, NoMemory, memory};
 use log_audit::KeptCells;
 use std::alloc::Global;
 use volume_meaning::{NODE_BUCKETS, NODE_CELLS};
@@ -45,9 +45,7 @@ fn root_row(alloc: Global, _kept: &KeptCells, geometry: &Geometry) -> Result<Vec
     ensures { IfOk result (λ row. AreOnLevel geometry.now (image_of_kept _kept.now) 0 row.items) }
 {
     let mut row = Vec::new(alloc);
-    let Ok(()) = row.push(geometry.root_at()) else {
-        return Err(NoMemory);
-    };
+    memory::push(&mut row, geometry.root_at())?;
     Ok(row)
 }
 
@@ -56,9 +54,7 @@ fn push_row(nodes: &mut Vec<LevelNode>, level: u8, row: &[u32]) -> Result<(), No
     ensures { OnOk result (AddsLevel level row.now (length row.now) nodes.old.items nodes.new.items) }
 {
     for node in row {
-        let Ok(()) = nodes.push(LevelNode { level, node: *node }) else {
-            return Err(NoMemory);
-        };
+        memory::push(nodes, LevelNode { level, node: *node })?;
     }
     Ok(())
 }
@@ -97,9 +93,7 @@ fn push_targets(
         let Some(target) = child_at(kept, geometry, node + place) else {
             continue;
         };
-        let Ok(()) = targets.push(target) else {
-            return Err(NoMemory);
-        };
+        memory::push(targets, target)?;
     }
     Ok(())
 }

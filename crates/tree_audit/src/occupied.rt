@@ -8,7 +8,7 @@ ghost use Rattle.tree_audit.specs.declared.occupied.TheConstants.{BLOCK_STEP};
 ghost use Rattle.tree_audit.specs.Listing.{AreBlockNumbers, AreNodeCells};
 
 use crate::nodes::LevelNode;
-use cell_types::{Geometry, NoMemory};
+use cell_types::{Geometry, NoMemory, memory};
 use list_audit::ListBlock;
 use log_audit::{KeptCells, has_between, sort_once};
 use std::alloc::Global;
@@ -87,9 +87,7 @@ fn block_numbers(alloc: Global, blocks: &[ListBlock]) -> Result<Vec<u64>, NoMemo
 {
     let mut numbers = Vec::new(alloc);
     for block in blocks {
-        let Ok(()) = numbers.push(number_of(block)) else {
-            return Err(NoMemory);
-        };
+        memory::push(&mut numbers, number_of(block))?;
     }
     Ok(numbers)
 }
@@ -108,9 +106,7 @@ fn node_cells(alloc: Global, nodes: &[LevelNode]) -> Result<Vec<u64>, NoMemory>
 {
     let mut cells = Vec::new(alloc);
     for node in nodes {
-        let Ok(()) = cells.push(u64::from(node.node)) else {
-            return Err(NoMemory);
-        };
+        memory::push(&mut cells, u64::from(node.node))?;
     }
     Ok(cells)
 }

@@ -40,17 +40,17 @@ IsOfReceipts refusal = ⊤
 of_body : (fault : BodyFault) → IsOfReceipts (refusal_of_body_fault fault)
 of_body faults.TooLong = tt
 of_body faults.SourceFailed = tt
-of_body faults.NoMemory = tt
+of_body (faults.NoMemory lack) = tt
 
 of_text : (fault : ReceiptFault) → IsOfReceipts (refusal_of_receipt fault)
 of_text (receipt_faults.BadReceipt i) = tt
-of_text receipt_faults.NoMemory = tt
+of_text (receipt_faults.NoMemory lack) = tt
 
 of_check : (refused : CheckRefusal) → IsOfReceipts (refusal_of_check refused)
 of_check (check_refusals.CellDiffers c) = tt
 of_check (check_refusals.NotShown n) = tt
 of_check check_refusals.DeviceFault = tt
-of_check check_refusals.NoMemory = tt
+of_check (check_refusals.NoMemory lack) = tt
 
 module _ (old new : Ports) where
   -- a check keeps what every call of the device keeps
@@ -108,7 +108,7 @@ module _ (r : Receipt) (body : List ℕ) (old new : Ports) (ready : IsReadyToChe
   -- a text that spells a receipt is read
   read_whole : (given : List ℕ) (fault : ReceiptFault) → given ≡ text_of_receipt r
       → ReadReceiptEnds old.device.cells given (Err fault) → IsOkOrNoMemory (Err (refusal_of_receipt fault))
-  read_whole given receipt_faults.NoMemory same reads = tt
+  read_whole given (receipt_faults.NoMemory lack) same reads = tt
   read_whole given (receipt_faults.BadReceipt i) same reads = absurd (reads.none r ready.is_receipt same)
 
   -- and one that shows a document whose cells stand is accepted
@@ -119,7 +119,7 @@ module _ (r : Receipt) (body : List ℕ) (old new : Ports) (ready : IsReadyToChe
       absurd (h.differs (checks.called.image.keeps c h.value (ready.stand.keeps c h.value h.is)))
   accepted (check_refusals.NotShown n) checks = absurd (checks.ends.1 body ready.shows)
   accepted check_refusals.DeviceFault checks = absurd (rose_or_still _ _ checks.ends ready.no_device_fault)
-  accepted check_refusals.NoMemory checks = tt
+  accepted (check_refusals.NoMemory lack) checks = tt
 
   told : (result : Result Unit Refusal) (answer : Result Checked CheckRefusal) (other : Receipt)
       → ChecksReceipt r old.device new.device answer → TellsFromMemory (kept_line other) (answer_of answer) old new result

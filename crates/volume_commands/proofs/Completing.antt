@@ -52,7 +52,7 @@ module _ (limit : ℕ) (body : List ℕ) (old new : Ports) (holds : old.source.l
       let within = gives_within old.source.left body given new.source.left holds gives in
       omega (arith, within, most, fails)
   body_taken given faults.SourceFailed gives fails = rose_or_still _ _ fails.1 no_fault
-  body_taken given faults.NoMemory gives fails = tt
+  body_taken given (faults.NoMemory lack) gives fails = tt
 
 module _ (g : Layout) (old new : Ports) (ready : IsReadyToRecover g old new) (device : IsDevice old.device) where
   -- the answer is Ok, since no memory is taken

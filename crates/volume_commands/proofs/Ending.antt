@@ -22,7 +22,7 @@ no_name e = absurd cc
 no_fault : (fault : BodyFault) → Usage ≡ refusal_of_body_fault fault → ⊥
 no_fault faults.TooLong e = absurd cc
 no_fault faults.SourceFailed e = absurd cc
-no_fault faults.NoMemory e = absurd cc
+no_fault (faults.NoMemory lack) e = absurd cc
 
 -- what the engine answered is no `Usage`, and so nothing that is told of it is
 told : {A : Type 0} (text : A → List ℕ) (answer : Result A Refusal) (old new : Ports)

@@ -77,14 +77,14 @@ module _ (id : List ℕ) (stamp : Option ℕ) (old new : Ports) (device : IsDevi
       → result ≡ Err (refusal_of_body_fault fault) → WasStored result → ⊥
   not_taken given faults.TooLong result is has = subst WasStored is has
   not_taken given faults.SourceFailed result is has = subst WasStored is has
-  not_taken given faults.NoMemory result is has = subst WasStored is has
+  not_taken given (faults.NoMemory lack) result is has = subst WasStored is has
 
   not_named : (fault : BodyFault) (result : Result Unit Refusal) (e : Evidence)
       → result ≡ Err (refusal_of_body_fault fault) → result ≡ Err (refusals.Tampered e) → ⊥
   not_named faults.TooLong result e p q = other_refusal result refusals.TooLong (refusals.Tampered e) (λ s. absurd cc) p q
   not_named faults.SourceFailed result e p q =
       other_refusal result refusals.SourceFault (refusals.Tampered e) (λ s. absurd cc) p q
-  not_named faults.NoMemory result e p q = other_refusal result refusals.NoMemory (refusals.Tampered e) (λ s. absurd cc) p q
+  not_named (faults.NoMemory lack) result e p q = other_refusal result refusals.NoMemory (refusals.Tampered e) (λ s. absurd cc) p q
 
   not_full : (fault : BodyFault) (result : Result Unit Refusal) (need free : ℕ)
       → result ≡ Err (refusal_of_body_fault fault) → result ≡ Err (refusals.Full need free) → ⊥
@@ -92,7 +92,7 @@ module _ (id : List ℕ) (stamp : Option ℕ) (old new : Ports) (device : IsDevi
       other_refusal result refusals.TooLong (refusals.Full need free) (λ s. absurd cc) p q
   not_full faults.SourceFailed result need free p q =
       other_refusal result refusals.SourceFault (refusals.Full need free) (λ s. absurd cc) p q
-  not_full faults.NoMemory result need free p q =
+  not_full (faults.NoMemory lack) result need free p q =
       other_refusal result refusals.NoMemory (refusals.Full need free) (λ s. absurd cc) p q
 
   module _ (body : List ℕ) where

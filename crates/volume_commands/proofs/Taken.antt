@@ -21,7 +21,7 @@ module _ (limit : ℕ) (body body' : List ℕ) (first old new : SourceState) (so
     subst (λ (l : Option (List ℕ)). Gives first.left l body) (sym ends.0) so_far,
     (is, subst (λ (n : ℕ). Rose n new.faults) same ends.1),
   )
-  piece_failed NoMemory ends is same = (
+  piece_failed (NoMemory lack) ends is same = (
     body ++ ends.piece,
     gives_then first.left old.left new.left body ends.piece so_far ends.gives,
     omega (arith, length-append body ends.piece, ends.most, within),

@@ -12,7 +12,7 @@ use Rattle.volume_commands.specs.declared.body.BodyFault.TheVariants.{TooLong, S
 abbrev pub refusal_of_body_fault : BodyFault → Refusal
 refusal_of_body_fault TooLong = refusals.TooLong
 refusal_of_body_fault SourceFailed = refusals.SourceFault
-refusal_of_body_fault NoMemory = refusals.NoMemory
+refusal_of_body_fault (NoMemory lack) = refusals.NoMemory
 
 -- The next n bytes were taken and stand behind the body so far. None, where there was room, is the end.
 pub record TakesPiece (room : ℕ) (body body' : List ℕ) (old new : SourceState) (n : ℕ) : Type 0 where
@@ -35,7 +35,7 @@ pub record LosesPiece (room : ℕ) (old new : SourceState) : Type 0 where
 abbrev pub TakePieceEnds : ℕ → List ℕ → List ℕ → SourceState → SourceState → Result ℕ BodyFault → Type 0
 TakePieceEnds room body body' old new (Ok n) = TakesPiece room body body' old new n
 TakePieceEnds room body body' old new (Err SourceFailed) = (new.left ≡ old.left) × Rose old.faults new.faults
-TakePieceEnds room body body' old new (Err NoMemory) = LosesPiece room old new
+TakePieceEnds room body body' old new (Err (NoMemory lack)) = LosesPiece room old new
 TakePieceEnds room body body' old new (Err TooLong) = ⊥
 
 -- at most so many bytes
@@ -47,4 +47,4 @@ pub record AreBytesUpTo (limit : ℕ) (body : List ℕ) : Type 0 where
 abbrev pub BodyFails : ℕ → List ℕ → SourceState → SourceState → BodyFault → Type 0
 BodyFails limit given old new TooLong = length given ≡ limit + 1
 BodyFails limit given old new SourceFailed = AreBytesUpTo limit given × Rose old.faults new.faults
-BodyFails limit given old new NoMemory = length given ≤ limit + 1
+BodyFails limit given old new (NoMemory lack) = length given ≤ limit + 1

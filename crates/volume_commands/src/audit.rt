@@ -4,10 +4,11 @@ ghost use Rattle.volume_commands.specs.Auditing.{DoesAudit, count_text, report_t
 ghost use Rattle.volume_commands.specs.Ports.{ports_of};
 
 use crate::outcome::Outcome;
+use cell_types::{NoMemory, memory};
 use command_line::put_text;
 use host_ports::{Meter, Sink, Source};
 use itoa::Buffer;
-use std::alloc::{AllocError, Global};
+use std::alloc::Global;
 use volume_audit::{AuditReport, audit_metered};
 use worm_device::Device;
 
@@ -29,11 +30,11 @@ pub fn audit_volume<D: Device, S: Source, K: Sink, M: Meter>(
 }
 
 /// The text that tells of a sound volume.
-fn text_of(alloc: Global, report: &AuditReport) -> Result<Vec<u8>, AllocError>
+fn text_of(alloc: Global, report: &AuditReport) -> Result<Vec<u8>, NoMemory>
     ensures { IfOk result (λ text. text.items ≡ report_text report.now) }
 {
     let mut text = Vec::new(alloc);
-    text.extend_from_slice(b"sound: ")?;
+    memory::extend_from_slice(&mut text, b"sound: ")?;
     push_count(&mut text, report.done, b" done, ")?;
     push_count(&mut text, report.abandoned, b" abandoned, ")?;
     push_count(&mut text, report.written, b" written cells\n")?;
@@ -41,10 +42,10 @@ fn text_of(alloc: Global, report: &AuditReport) -> Result<Vec<u8>, AllocError>
 }
 
 /// Puts a number and what is counted behind the text.
-fn push_count(text: &mut Vec<u8>, count: u32, counted: &[u8]) -> Result<(), AllocError>
+fn push_count(text: &mut Vec<u8>, count: u32, counted: &[u8]) -> Result<(), NoMemory>
     ensures { OnOk result (text.new.items ≡ text.old.items ++ count_text count counted.now) }
 {
     let mut digits = Buffer::new();
-    text.extend_from_slice(digits.format(count).as_bytes())?;
-    text.extend_from_slice(counted)
+    memory::extend_from_slice(text, digits.format(count).as_bytes())?;
+    memory::extend_from_slice(text, counted)
 }

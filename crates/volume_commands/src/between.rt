@@ -4,10 +4,11 @@ ghost use Rattle.volume_commands.specs.Ports.{ports_of};
 ghost use Rattle.volume_commands.specs.Spanning.{DoesBetween, line_start, span_text, stamped_line};
 
 use crate::outcome::Outcome;
+use cell_types::{NoMemory, memory};
 use command_line::{push_count_line, put_text};
 use host_ports::{Sink, Source};
 use itoa::Buffer;
-use std::alloc::{AllocError, Global};
+use std::alloc::Global;
 use time_index::{TimeMatch, between};
 use worm_device::Device;
 
@@ -32,7 +33,7 @@ pub fn find_between<D: Device, S: Source, K: Sink>(
 }
 
 /// The text that tells of the matches.
-fn text_of(alloc: Global, matches: &[TimeMatch]) -> Result<Vec<u8>, AllocError>
+fn text_of(alloc: Global, matches: &[TimeMatch]) -> Result<Vec<u8>, NoMemory>
     ensures { IfOk result (λ text. text.items ≡ span_text matches.now) }
 {
     let mut text = Vec::new(alloc);
@@ -56,24 +57,24 @@ fn push_stamped_line(
     identifier: &[u8],
     seconds: u32,
     bytes: u32,
-) -> Result<(), AllocError>
+) -> Result<(), NoMemory>
     ensures { OnOk result (text.new.items ≡ text.old.items ++ stamped_line slot identifier.now seconds bytes) }
 {
     push_line_start(text, slot, identifier)?;
     let mut digits = Buffer::new();
-    text.extend_from_slice(digits.format(seconds).as_bytes())?;
-    text.extend_from_slice(b" ")?;
-    text.extend_from_slice(digits.format(bytes).as_bytes())?;
-    text.extend_from_slice(b"\n")
+    memory::extend_from_slice(text, digits.format(seconds).as_bytes())?;
+    memory::extend_from_slice(text, b" ")?;
+    memory::extend_from_slice(text, digits.format(bytes).as_bytes())?;
+    memory::extend_from_slice(text, b"\n")
 }
 
 /// Puts what the line of a document begins with behind the text.
-fn push_line_start(text: &mut Vec<u8>, slot: u32, identifier: &[u8]) -> Result<(), AllocError>
+fn push_line_start(text: &mut Vec<u8>, slot: u32, identifier: &[u8]) -> Result<(), NoMemory>
     ensures { OnOk result (text.new.items ≡ text.old.items ++ line_start slot identifier.now) }
 {
     let mut digits = Buffer::new();
-    text.extend_from_slice(digits.format(slot).as_bytes())?;
-    text.extend_from_slice(b" ")?;
-    text.extend_from_slice(identifier)?;
-    text.extend_from_slice(b" ")
+    memory::extend_from_slice(text, digits.format(slot).as_bytes())?;
+    memory::extend_from_slice(text, b" ")?;
+    memory::extend_from_slice(text, identifier)?;
+    memory::extend_from_slice(text, b" ")
 }

@@ -4,9 +4,9 @@ ghost use Rattle.host_ports.specs.Sources.{Gives, IsAtEnd};
 ghost use Rattle.volume_commands.specs.Taking.{AreBytesUpTo, BodyFails, TakePieceEnds, refusal_of_body_fault};
 ghost use Rattle.volume_commands.specs.declared.body.BodyFault.TheVariants as faults;
 
-use cell_types::Refusal;
+use cell_types::{NoMemory, Refusal, memory};
 use host_ports::{Failed, Source};
-use std::alloc::{AllocError, Global};
+use std::alloc::Global;
 
 /// The greatest number of bytes that the text of a receipt may have. No command takes more.
 pub const MAX_RECEIPT_BYTES: usize = 67_108_864;
@@ -22,7 +22,7 @@ pub enum BodyFault {
     /// A call of the source failed.
     SourceFailed,
     /// No memory was to be had.
-    NoMemory,
+    NoMemory(NoMemory),
 }
 
 impl From<Failed> for BodyFault {
@@ -33,11 +33,11 @@ impl From<Failed> for BodyFault {
     }
 }
 
-impl From<AllocError> for BodyFault {
-    ghost from_gives = { λ _ fault. fault ≡ faults.NoMemory };
+impl From<NoMemory> for BodyFault {
+    ghost from_gives = { λ lack fault. fault ≡ faults.NoMemory lack };
 
-    fn from(_: AllocError) -> BodyFault {
-        BodyFault::NoMemory
+    fn from(lack: NoMemory) -> BodyFault {
+        BodyFault::NoMemory(lack)
     }
 }
 
@@ -48,7 +48,7 @@ impl From<BodyFault> for Refusal {
         match fault {
             BodyFault::TooLong => Refusal::TooLong,
             BodyFault::SourceFailed => Refusal::SourceFault,
-            BodyFault::NoMemory => Refusal::NoMemory,
+            BodyFault::NoMemory(lack) => Refusal::from(lack),
         }
     }
 }
@@ -91,6 +91,6 @@ fn take_piece<S: Source>(
         (S.state source.old) (S.state source.new) result }
 {
     let taken = source.take(piece)?;
-    body.extend_from_slice(&piece[..taken])?;
+    memory::extend_from_slice(body, &piece[..taken])?;
     Ok(taken)
 }

@@ -5,11 +5,12 @@ ghost use Rattle.volume_commands.specs.Ports.{ports_of};
 
 use crate::body::{MAX_RECEIPT_BYTES, take_input};
 use crate::outcome::Outcome;
+use cell_types::{NoMemory, memory};
 use command_line::{push_document_line, put_text};
 use host_ports::{Sink, Source};
 use receipt_check::{Checked, check_receipt};
 use receipt_text::{Receipt, read_receipt};
-use std::alloc::{AllocError, Global};
+use std::alloc::Global;
 use worm_device::Device;
 
 /// Checks the receipt that the source gives, and puts out of which document it is. Writes nothing on the device.
@@ -31,10 +32,10 @@ pub fn check_source<D: Device, S: Source, K: Sink>(
 }
 
 /// The line that tells of the document that the receipt showed.
-fn line_of(alloc: Global, receipt: &Receipt, checked: Checked) -> Result<Vec<u8>, AllocError>
+fn line_of(alloc: Global, receipt: &Receipt, checked: Checked) -> Result<Vec<u8>, NoMemory>
     ensures { IfOk result (λ line. line.items ≡ kept_line receipt.now checked) }
 {
-    let mut line = Vec::from_slice(alloc, b"kept ")?;
+    let mut line = memory::from_slice(alloc, b"kept ")?;
     push_document_line(
         &mut line,
         checked.slot,

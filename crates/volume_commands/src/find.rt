@@ -7,12 +7,12 @@ ghost use Rattle.volume_commands.specs.Ruling.{AsksRule};
 ghost use Rattle.command_line.specs.declared.words.TheConstants.{MAX_QUERY_WORDS};
 
 use crate::outcome::Outcome;
-use cell_types::Refusal;
+use cell_types::{NoMemory, Refusal, memory};
 use command_line::{push_count_line, push_document_line, put_text};
 use commit_record::volume_of;
 use host_ports::{Sink, Source};
 use record_query::{Match, find};
-use std::alloc::{AllocError, Global};
+use std::alloc::Global;
 use volume_meaning::{WordRule, rule_of};
 use word_reader::{Term, WordFault, single_term};
 use worm_device::Device;
@@ -61,19 +61,17 @@ fn terms_of(alloc: Global, words: &[String], rule: WordRule) -> Result<Vec<Term>
         let term = match single_term(alloc, word.as_bytes(), rule) {
             Ok(term) => term,
             Err(WordFault::BadWord) => return Err(Refusal::BadWord(number)),
-            Err(WordFault::NoMemory) => return Err(Refusal::NoMemory),
+            Err(WordFault::NoMemory(lack)) => return Err(Refusal::from(lack)),
         };
         if terms.iter().all(|other| other.bytes() != term.bytes()) {
-            let Ok(()) = terms.push(term) else {
-                return Err(Refusal::NoMemory);
-            };
+            memory::push(&mut terms, term)?;
         }
     }
     Ok(terms)
 }
 
 /// The text that tells of the matches.
-fn text_of(alloc: Global, matches: &[Match]) -> Result<Vec<u8>, AllocError>
+fn text_of(alloc: Global, matches: &[Match]) -> Result<Vec<u8>, NoMemory>
     ensures { IfOk result (λ text. text.items ≡ find_text matches.now) }
 {
     let mut text = Vec::new(alloc);

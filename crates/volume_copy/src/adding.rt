@@ -6,7 +6,7 @@ use crate::audited::AuditedVolume;
 use crate::moved::Moved;
 use crate::refused::{from_source, to_target};
 use crate::stored::read_stored;
-use cell_types::CopyRefusal;
+use cell_types::{CopyRefusal, memory};
 use host_ports::{Meter, Work};
 use ingest_engine::ingest;
 use std::alloc::Global;
@@ -55,9 +55,7 @@ pub(crate) fn copy_rest<D: Device, E: Device, M: Meter>(
             Ok(pair) => pair,
             Err(refusal) => return Err(refusal),
         };
-        let Ok(()) = moved.push(pair) else {
-            return Err(CopyRefusal::NoMemory);
-        };
+        memory::push(moved, pair)?;
         meter.show(Work::Copying, moved.len() as u64, source.done.len() as u64);
     }
     Ok(())

@@ -7,7 +7,7 @@ use crate::audited::AuditedVolume;
 use crate::moved::Moved;
 use crate::refused::{from_source, to_target};
 use crate::stored::{StoredCopy, read_stored};
-use cell_types::CopyRefusal;
+use cell_types::{CopyRefusal, memory};
 use std::alloc::Global;
 use worm_device::Device;
 
@@ -33,9 +33,7 @@ pub(crate) fn compare<D: Device, E: Device>(
             Ok(pair) => pair,
             Err(refusal) => return Err(refusal),
         };
-        let Ok(()) = moved.push(pair) else {
-            return Err(CopyRefusal::NoMemory);
-        };
+        memory::push(&mut moved, pair)?;
     }
     Ok(moved)
 }

@@ -9,7 +9,7 @@ pub(crate) fn from_source(refusal: Refusal) -> CopyRefusal
     ensures { result ≡ refusal_from refusal }
 {
     match refusal {
-        Refusal::NoMemory => CopyRefusal::NoMemory,
+        Refusal::NoMemory { .. } => CopyRefusal::from(refusal.lack()),
         other => CopyRefusal::From(other),
     }
 }
@@ -19,7 +19,7 @@ pub(crate) fn to_target(refusal: Refusal) -> CopyRefusal
     ensures { result ≡ refusal_to refusal }
 {
     match refusal {
-        Refusal::NoMemory => CopyRefusal::NoMemory,
+        Refusal::NoMemory { .. } => CopyRefusal::from(refusal.lack()),
         other => CopyRefusal::To(other),
     }
 }

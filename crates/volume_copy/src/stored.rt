@@ -5,7 +5,7 @@ ghost use Rattle.volume_meaning.specs.Slots.{IsDoneSlot};
 ghost use Rattle.worm_device.specs.Views.{Viewed};
 ghost use Rattle.volume_copy.specs.Reading.{BodyReadEnds, CopyReadEnds, NamesCell, ReadsStored, StampReadEnds};
 
-use cell_types::{RecordCell, Refusal, STAMPED_VERSION, Volume, breach, encode};
+use cell_types::{RecordCell, Refusal, STAMPED_VERSION, Volume, breach, encode, memory};
 use commit_record::stamp_of;
 use document_store::{BodyFault, body_into, identifier_of, is_identifier};
 use host_ports::MemorySink;
@@ -94,15 +94,13 @@ fn body_of<V: View>(
     ensures ends { BodyReadEnds volume.now.geometry slot (V.seen view.old) (V.seen view.new) result }
 {
     let mut body = MemorySink::new(alloc);
-    let Ok(()) = body.reserve(MAX_BODY_BYTES as u32) else {
-        return Err(Refusal::NoMemory);
-    };
+    body.reserve(MAX_BODY_BYTES as u32)?;
     match body_into(view, volume, slot, &mut body) {
         Ok(_bytes) => Ok(body),
         Err(BodyFault::Tampered(evidence)) => Err(Refusal::Tampered(evidence)),
         Err(BodyFault::ReadFault) => Err(Refusal::DeviceFault),
         // There was room for each body: none was to be had after all.
-        Err(BodyFault::SinkFault) => Err(Refusal::NoMemory),
+        Err(BodyFault::SinkFault) => Err(Refusal::from(memory::lacked_elsewhere())),
     }
 }
 

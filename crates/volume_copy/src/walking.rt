@@ -4,7 +4,7 @@ ghost use Rattle.worm_device.specs.Views.{Viewed};
 ghost use Rattle.volume_copy.specs.Reading.{IsOnlyRead, RiseFrom};
 ghost use Rattle.volume_copy.specs.Walking.{CopyWalkEnds, WalksSlots};
 
-use cell_types::{Refusal, Volume};
+use cell_types::{Refusal, Volume, memory};
 use document_store::slot_part;
 use std::alloc::Global;
 use worm_device::{Device, Direct, View};
@@ -42,9 +42,7 @@ fn done_in<V: View>(
         let Some(_part) = found else {
             continue;
         };
-        let Ok(()) = done.push(slot) else {
-            return Err(Refusal::NoMemory);
-        };
+        memory::push(&mut done, slot)?;
     }
     Ok(done)
 }

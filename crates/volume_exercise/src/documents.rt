@@ -5,13 +5,14 @@ ghost use Rattle.command_line.specs.declared.words.TheConstants.{MAX_DOCUMENTS};
 ghost use Rattle.volume_exercise.specs.declared.limits.TheConstants.{BODY_WORDS};
 
 use crate::limits::{BODY_WORDS, DISTINCT_WORDS};
-use std::alloc::{AllocError, Global};
+use cell_types::{NoMemory, memory};
+use std::alloc::Global;
 
 /// The word of this number.
-pub(crate) fn word(alloc: Global, number: u32) -> Result<String, AllocError>
+pub(crate) fn word(alloc: Global, number: u32) -> Result<String, NoMemory>
     ensures { IfOk result (λ text. string_bytes text ≡ word_of number) }
 {
-    format!(in alloc; "w{number}")
+    memory::format(alloc, format_args!("w{number}"))
 }
 
 /// The number of the word at this place of the document.
@@ -24,15 +25,15 @@ fn word_at(document: u32, place: u32) -> u32
 }
 
 /// The body of the document: its words, with one space between.
-pub(crate) fn body(alloc: Global, document: u32) -> Result<String, AllocError>
+pub(crate) fn body(alloc: Global, document: u32) -> Result<String, NoMemory>
     requires { document < MAX_DOCUMENTS }
     ensures { IfOk result (λ text. string_bytes text ≡ body_of document) }
 {
     let mut text = word(alloc, word_at(document, 0))?;
     for place in 1..BODY_WORDS {
-        text.push_str(" ")?;
+        memory::push_str(&mut text, " ")?;
         let next = word(alloc, word_at(document, place))?;
-        text.push_str(next.as_str())?;
+        memory::push_str(&mut text, next.as_str())?;
     }
     Ok(text)
 }
@@ -46,10 +47,10 @@ fn digit_of(number: u32, power: u32) -> u8
 }
 
 /// The identifier of the document: `d` and its number in six digits.
-pub(crate) fn identifier(alloc: Global, document: u32) -> Result<Vec<u8>, AllocError>
+pub(crate) fn identifier(alloc: Global, document: u32) -> Result<Vec<u8>, NoMemory>
     ensures { IfOk result (λ id. id.items ≡ identifier_of document) }
 {
-    let id = vec![in alloc;
+    let id = [
         b'd',
         digit_of(document, 100_000),
         digit_of(document, 10_000),
@@ -57,6 +58,6 @@ pub(crate) fn identifier(alloc: Global, document: u32) -> Result<Vec<u8>, AllocE
         digit_of(document, 100),
         digit_of(document, 10),
         digit_of(document, 1),
-    ]?;
-    Ok(id)
+    ];
+    memory::from_slice(alloc, &id)
 }

@@ -7,69 +7,69 @@ ghost use Rattle.volume_exercise.specs.declared.limits.TheConstants.{DISTINCT_WO
 
 use crate::documents::{body, identifier, word};
 use crate::limits::{DISTINCT_WORDS, LISTS};
-use cell_types::FIRST_VERSION;
+use cell_types::{FIRST_VERSION, NoMemory, memory};
 use document_store::Text;
 use script_events::{Event, Schedule, Sequence};
-use std::alloc::{AllocError, Global};
+use std::alloc::Global;
 use volume_meaning::WordRule;
 use word_reader::{Term, WordFault, single_term};
 
 /// The events of the exercise with so many documents, in order.
-pub fn exercise_events(alloc: Global, documents: u32) -> Result<Vec<Event>, AllocError>
+pub fn exercise_events(alloc: Global, documents: u32) -> Result<Vec<Event>, NoMemory>
     requires { documents ≤ MAX_DOCUMENTS }
     ensures { IfOk result (λ events. events.items ≡ exercise_events documents) }
 {
     let mut events = Vec::new(alloc);
-    events.push(format_event(alloc, documents))?;
+    memory::push(&mut events, format_event(alloc, documents))?;
     push_ingests(alloc, documents, &mut events)?;
     push_singles(alloc, &mut events)?;
     push_pairs(alloc, &mut events)?;
     push_look_ups(alloc, documents, &mut events)?;
-    events.push(audit_event(alloc))?;
+    memory::push(&mut events, audit_event(alloc))?;
     Ok(events)
 }
 
 /// An ingest for each document.
-fn push_ingests(alloc: Global, documents: u32, events: &mut Vec<Event>) -> Result<(), AllocError>
+fn push_ingests(alloc: Global, documents: u32, events: &mut Vec<Event>) -> Result<(), NoMemory>
     requires { documents ≤ MAX_DOCUMENTS }
     ensures { OnOk result (events.new.items ≡ events.old.items ++ ingests documents) }
 {
     for document in 0..documents {
         let event = ingest_event(alloc, document)?;
-        events.push(event)?;
+        memory::push(events, event)?;
     }
     Ok(())
 }
 
 /// A find for each word.
-fn push_singles(alloc: Global, events: &mut Vec<Event>) -> Result<(), AllocError>
+fn push_singles(alloc: Global, events: &mut Vec<Event>) -> Result<(), NoMemory>
     ensures { OnOk result (events.new.items ≡ events.old.items ++ singles) }
 {
     for number in 0..DISTINCT_WORDS {
         let event = single_event(alloc, number)?;
-        events.push(event)?;
+        memory::push(events, event)?;
     }
     Ok(())
 }
 
 /// A find for each pair of words.
-fn push_pairs(alloc: Global, events: &mut Vec<Event>) -> Result<(), AllocError>
+fn push_pairs(alloc: Global, events: &mut Vec<Event>) -> Result<(), NoMemory>
     ensures { OnOk result (events.new.items ≡ events.old.items ++ pairs) }
 {
     for number in 0..DISTINCT_WORDS - 1 {
         let event = pair_event(alloc, number)?;
-        events.push(event)?;
+        memory::push(events, event)?;
     }
     Ok(())
 }
 
 /// A look-up for each document.
-fn push_look_ups(alloc: Global, documents: u32, events: &mut Vec<Event>) -> Result<(), AllocError>
+fn push_look_ups(alloc: Global, documents: u32, events: &mut Vec<Event>) -> Result<(), NoMemory>
     ensures { OnOk result (events.new.items ≡ events.old.items ++ look_ups documents) }
 {
     for document in 0..documents {
         let event = look_up_event(alloc, document)?;
-        events.push(event)?;
+        memory::push(events, event)?;
     }
     Ok(())
 }
@@ -87,7 +87,7 @@ fn format_event(alloc: Global, documents: u32) -> Event
 }
 
 /// This document is taken in.
-fn ingest_event(alloc: Global, document: u32) -> Result<Event, AllocError>
+fn ingest_event(alloc: Global, document: u32) -> Result<Event, NoMemory>
     requires { document < MAX_DOCUMENTS }
     ensures { IfOk result (λ event. event ≡ ingest_event document) }
 {
@@ -102,11 +102,13 @@ fn ingest_event(alloc: Global, document: u32) -> Result<Event, AllocError>
 }
 
 /// This word is sought alone.
-fn single_event(alloc: Global, number: u32) -> Result<Event, AllocError>
+fn single_event(alloc: Global, number: u32) -> Result<Event, NoMemory>
     requires { number < DISTINCT_WORDS }
     ensures { IfOk result (λ event. event ≡ single_event number) }
 {
-    let terms = vec![in alloc; term(alloc, number)?]?;
+    let only = term(alloc, number)?;
+    let mut terms = Vec::new(alloc);
+    memory::push(&mut terms, only)?;
     Ok(Event::Find {
         terms: Sequence::new(terms),
         plan: no_schedule(alloc),
@@ -114,13 +116,15 @@ fn single_event(alloc: Global, number: u32) -> Result<Event, AllocError>
 }
 
 /// This word is sought with the next one.
-fn pair_event(alloc: Global, number: u32) -> Result<Event, AllocError>
+fn pair_event(alloc: Global, number: u32) -> Result<Event, NoMemory>
     requires { number < DISTINCT_WORDS - 1 }
     ensures { IfOk result (λ event. event ≡ pair_event number) }
 {
     let first = term(alloc, number)?;
     let second = term(alloc, number + 1)?;
-    let terms = vec![in alloc; first, second]?;
+    let mut terms = Vec::new(alloc);
+    memory::push(&mut terms, first)?;
+    memory::push(&mut terms, second)?;
     Ok(Event::Find {
         terms: Sequence::new(terms),
         plan: no_schedule(alloc),
@@ -128,7 +132,7 @@ fn pair_event(alloc: Global, number: u32) -> Result<Event, AllocError>
 }
 
 /// This document is looked up.
-fn look_up_event(alloc: Global, document: u32) -> Result<Event, AllocError>
+fn look_up_event(alloc: Global, document: u32) -> Result<Event, NoMemory>
     ensures { IfOk result (λ event. event ≡ look_up_event document) }
 {
     let id = identifier(alloc, document)?;
@@ -148,7 +152,7 @@ fn audit_event(alloc: Global) -> Event
 }
 
 /// The term of this word.
-fn term(alloc: Global, number: u32) -> Result<Term, AllocError>
+fn term(alloc: Global, number: u32) -> Result<Term, NoMemory>
     requires { number < DISTINCT_WORDS }
     ensures { IfOk result (λ term. term ≡ word_of number) }
 {
@@ -156,7 +160,7 @@ fn term(alloc: Global, number: u32) -> Result<Term, AllocError>
     match single_term(alloc, word.as_bytes(), WordRule::Ascii) {
         Ok(term) => Ok(term),
         Err(WordFault::BadWord) => unreachable!(),
-        Err(WordFault::NoMemory) => Err(AllocError),
+        Err(WordFault::NoMemory(lack)) => Err(lack),
     }
 }
 

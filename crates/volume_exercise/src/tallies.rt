@@ -6,9 +6,9 @@ ghost use Rattle.command_line.specs.declared.words.TheConstants.{MAX_DOCUMENTS};
 
 use crate::documents::body;
 use crate::limits::DISTINCT_WORDS;
-use cell_types::Refusal;
+use cell_types::{NoMemory, Refusal, memory};
 use script_replies::Reply;
-use std::alloc::{AllocError, Global};
+use std::alloc::Global;
 
 /// What the replies come to.
 #[derive(Clone, Copy)]
@@ -36,7 +36,7 @@ pub fn first_refusal(replies: &[Reply]) -> Option<Refusal>
 }
 
 /// The lines of the exercise with so many documents, by the replies to all of its events.
-pub fn text_of(alloc: Global, documents: u32, replies: &[Reply]) -> Result<String, AllocError>
+pub fn text_of(alloc: Global, documents: u32, replies: &[Reply]) -> Result<String, NoMemory>
     requires few { documents ≤ MAX_DOCUMENTS }
     requires all { length replies.now ≡ 2 * documents + 401 }
     ensures { IfOk result (λ text. string_bytes text ≡ counted_text documents replies.now) }
@@ -56,7 +56,7 @@ pub fn text_of(alloc: Global, documents: u32, replies: &[Reply]) -> Result<Strin
 }
 
 /// The lines of the exercise with so many documents.
-fn lines(alloc: Global, documents: u32, tally: &Tally, sound: &str) -> Result<String, AllocError>
+fn lines(alloc: Global, documents: u32, tally: &Tally, sound: &str) -> Result<String, NoMemory>
     ensures { IfOk result (λ text. string_bytes text ≡ tally_lines documents tally.now.acknowledged tally.now.single
         tally.now.pairs tally.now.looked_up sound.now) }
 {
@@ -66,8 +66,11 @@ fn lines(alloc: Global, documents: u32, tally: &Tally, sound: &str) -> Result<St
         pairs,
         looked_up,
     } = tally;
-    format!(in alloc;
-        "documents {documents}\nacknowledged {acknowledged}\nsingle {single}\npairs {pairs}\nlooked up {looked_up}\n{sound}"
+    memory::format(
+        alloc,
+        format_args!(
+            "documents {documents}\nacknowledged {acknowledged}\nsingle {single}\npairs {pairs}\nlooked up {looked_up}\n{sound}"
+        ),
     )
 }
 
@@ -116,7 +119,7 @@ fn matches_in(reply: &Reply) -> usize
 }
 
 /// How many bodies came back with their length.
-fn returned_all(alloc: Global, replies: &[Reply]) -> Result<u32, AllocError>
+fn returned_all(alloc: Global, replies: &[Reply]) -> Result<u32, NoMemory>
     requires { length replies.now ≤ MAX_DOCUMENTS }
     ensures { IfOk result (λ count. count ≡ returned_from 0 replies.now) }
 {
@@ -130,7 +133,7 @@ fn returned_all(alloc: Global, replies: &[Reply]) -> Result<u32, AllocError>
 }
 
 /// 1 where the body of the document came back with its length, and else 0.
-fn returned(alloc: Global, document: u32, reply: &Reply) -> Result<u32, AllocError>
+fn returned(alloc: Global, document: u32, reply: &Reply) -> Result<u32, NoMemory>
     requires { document < MAX_DOCUMENTS }
     ensures { IfOk result (λ count. count ≡ returned document reply.now) }
 {

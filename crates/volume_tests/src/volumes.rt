@@ -47,7 +47,7 @@ pub(crate) fn answer_to(alloc: Global, device: &mut MemoryDevice, text: &[u8]) -
     let receipt = match read_receipt(alloc, text, device.cells()) {
         Ok(receipt) => receipt,
         Err(ReceiptFault::BadReceipt(line)) => return Answer::BadLine(line),
-        Err(ReceiptFault::NoMemory) => return Answer::Unanswered,
+        Err(ReceiptFault::NoMemory(_)) => return Answer::Unanswered,
     };
     match check_receipt(alloc, device, &receipt) {
         Ok(checked) => Answer::Accepted(checked.slot, checked.bytes),

@@ -9,4 +9,4 @@ use Rattle.word_reader.specs.declared.reader.WordFault.TheVariants.{BadWord, NoM
 abbrev pub SingleEnds : WordRule → List ℕ → Result (List ℕ) WordFault → Type 0
 SingleEnds rule word (Ok term) = AreWords rule word (term ∷ [])
 SingleEnds rule word (Err BadWord) = (term : List ℕ) → AreWords rule word (term ∷ []) → ⊥
-SingleEnds rule word (Err NoMemory) = ⊤
+SingleEnds rule word (Err (NoMemory lack)) = ⊤

@@ -9,7 +9,8 @@ ghost use Rattle.word_reader.specs.RowWords as words;
 use crate::Term;
 use crate::reader::{is_of_word, lower};
 use crate::row_words::{before_run, has_word};
-use std::alloc::{AllocError, Global};
+use cell_types::{NoMemory, memory};
+use std::alloc::Global;
 
 /// One of the terms, and what the bytes so far say of it.
 #[derive(Drop)]
@@ -154,7 +155,7 @@ pub(crate) struct ByteMatcher {
 
 impl ByteMatcher {
     /// A matcher of these terms, to which no byte was pushed.
-    pub(crate) fn new(alloc: Global, terms: &[Term]) -> Result<ByteMatcher, AllocError>
+    pub(crate) fn new(alloc: Global, terms: &[Term]) -> Result<ByteMatcher, NoMemory>
         ensures { IfOk result (λ matcher. KnowsBytes matcher terms.now []) }
     {
         let sought = sought_of(alloc, terms)?;
@@ -247,19 +248,22 @@ impl ByteMatcher {
 }
 
 /// What is sought of these terms.
-fn sought_of(alloc: Global, terms: &[Term]) -> Result<Vec<Sought>, AllocError>
+fn sought_of(alloc: Global, terms: &[Term]) -> Result<Vec<Sought>, NoMemory>
     ensures { IfOk result (λ sought. SeekAll sought.items terms.now []) }
 {
     let mut sought = Vec::new(alloc);
     for term in terms {
         let mut bytes = Vec::new(alloc);
-        bytes.extend_from_slice(term.bytes())?;
-        sought.push(Sought {
-            bytes,
-            found: false,
-            agrees: true,
-            front: 0,
-        })?;
+        memory::extend_from_slice(&mut bytes, term.bytes())?;
+        memory::push(
+            &mut sought,
+            Sought {
+                bytes,
+                found: false,
+                agrees: true,
+                front: 0,
+            },
+        )?;
     }
     Ok(sought)
 }

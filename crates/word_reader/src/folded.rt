@@ -7,7 +7,8 @@ ghost use Rattle.volume_meaning.specs.declared.word_rules.WordRule.TheVariants.{
 
 use crate::Term;
 use bstr::decode_utf8;
-use std::alloc::{AllocError, Global};
+use cell_types::{NoMemory, memory};
+use std::alloc::Global;
 use ucd_case::full_folding;
 use ucd_category::GeneralCategory;
 use ucd_derived::is_alphabetic;
@@ -17,7 +18,7 @@ const STRAY: char = '\u{FFFD}';
 
 /// The words, read from the first byte on.
 #[tactic(auto, unfolding(volume_meaning::specs::Words::words_of))]
-pub(crate) fn read_folded(alloc: Global, bytes: &[u8]) -> Result<Vec<Term>, AllocError>
+pub(crate) fn read_folded(alloc: Global, bytes: &[u8]) -> Result<Vec<Term>, NoMemory>
     ensures { IfOk result (λ terms. terms.items ≡ words_of Folded bytes.now) }
 {
     let mut terms = Vec::new(alloc);
@@ -29,14 +30,14 @@ pub(crate) fn read_folded(alloc: Global, bytes: &[u8]) -> Result<Vec<Term>, Allo
         if is_word_character(unit) {
             push_folded(&mut run, unit)?;
         } else if !run.as_bytes().is_empty() {
-            terms.push(Term::new(run.into_bytes()))?;
+            memory::push(&mut terms, Term::new(run.into_bytes()))?;
             run = String::new(alloc);
         }
     }
     if run.as_bytes().is_empty() {
         return Ok(terms);
     }
-    terms.push(Term::new(run.into_bytes()))?;
+    memory::push(&mut terms, Term::new(run.into_bytes()))?;
     Ok(terms)
 }
 
@@ -63,16 +64,16 @@ fn is_word_character(character: char) -> bool
 }
 
 /// Puts the case folding of the character behind a text.
-fn push_folded(run: &mut String, character: char) -> Result<(), AllocError>
+fn push_folded(run: &mut String, character: char) -> Result<(), NoMemory>
     ensures { IsOk result
         → string_bytes run.new ≡ string_bytes run.old ++ encode_utf8_all (default_case_fold (character ∷ [])) }
 {
     let folded = full_folding(character);
     if folded.is_empty() {
-        return run.push(character);
+        return memory::push_char(run, character);
     }
     for one in folded {
-        run.push(*one)?;
+        memory::push_char(run, *one)?;
     }
     Ok(())
 }

@@ -7,7 +7,7 @@ use crate::Term;
 use crate::byte_matcher::ByteMatcher;
 use crate::text_matcher::TextMatcher;
 use cell_types::NoMemory;
-use std::alloc::{AllocError, Global};
+use std::alloc::Global;
 use volume_meaning::WordRule;
 
 /// How a matcher goes about it, by the rule of words.
@@ -84,7 +84,7 @@ impl Matcher {
 }
 
 /// The way of a rule, to which no byte was pushed.
-fn way_of(alloc: Global, terms: &[Term], rule: WordRule) -> Result<Way, AllocError>
+fn way_of(alloc: Global, terms: &[Term], rule: WordRule) -> Result<Way, NoMemory>
     ensures { IfOk result (λ way. Serves way rule terms.now []) }
 {
     match rule {

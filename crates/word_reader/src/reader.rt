@@ -3,11 +3,12 @@ ghost use Rattle.std.specs.Prelude.{◌≡◌, IfOk};
 ghost use Rattle.volume_meaning.specs.Words.{is_word_byte, lowered, AreWords, words_of};
 ghost use Rattle.volume_meaning.specs.declared.word_rules.WordRule.TheVariants.{Ascii};
 ghost use Rattle.word_reader.specs.Single.{SingleEnds};
+ghost use Rattle.word_reader.specs.declared.reader.WordFault.TheVariants as faults;
 
 use crate::Term;
 use crate::folded::read_folded;
-use cell_types::NoMemory;
-use std::alloc::{AllocError, Global};
+use cell_types::{NoMemory, memory};
+use std::alloc::Global;
 use volume_meaning::WordRule;
 
 /// The words of these bytes, in order and with repeats.
@@ -24,16 +25,22 @@ pub enum WordFault {
     /// It does not hold exactly one term.
     BadWord,
     /// No memory was to be had.
-    NoMemory,
+    NoMemory(NoMemory),
+}
+
+impl From<NoMemory> for WordFault {
+    ghost from_gives = { λ lack fault. fault ≡ faults.NoMemory lack };
+
+    fn from(lack: NoMemory) -> WordFault {
+        WordFault::NoMemory(lack)
+    }
 }
 
 /// The one term that a word of a query holds.
 pub fn single_term(alloc: Global, word: &[u8], rule: WordRule) -> Result<Term, WordFault>
     ensures { SingleEnds rule word.now result }
 {
-    let Ok(mut terms) = read_words(alloc, word, rule) else {
-        return Err(WordFault::NoMemory);
-    };
+    let mut terms = read_words(alloc, word, rule)?;
     if terms.len() != 1 {
         return Err(WordFault::BadWord);
     }
@@ -41,7 +48,7 @@ pub fn single_term(alloc: Global, word: &[u8], rule: WordRule) -> Result<Term, W
 }
 
 /// The words, read from the first byte on.
-fn read_words(alloc: Global, bytes: &[u8], rule: WordRule) -> Result<Vec<Term>, AllocError>
+fn read_words(alloc: Global, bytes: &[u8], rule: WordRule) -> Result<Vec<Term>, NoMemory>
     ensures { IfOk result (λ terms. terms.items ≡ words_of rule bytes.now) }
 {
     match rule {
@@ -52,21 +59,21 @@ fn read_words(alloc: Global, bytes: &[u8], rule: WordRule) -> Result<Vec<Term>, 
 
 /// The words of bytes as bytes.
 #[tactic(auto, unfolding(volume_meaning::specs::Words::words_of))]
-fn read_bytes(alloc: Global, bytes: &[u8]) -> Result<Vec<Term>, AllocError>
+fn read_bytes(alloc: Global, bytes: &[u8]) -> Result<Vec<Term>, NoMemory>
     ensures { IfOk result (λ terms. terms.items ≡ words_of Ascii bytes.now) }
 {
     let mut terms = Vec::new(alloc);
     let mut run = Vec::new(alloc);
     for byte in bytes {
         if is_of_word(*byte) {
-            run.push(lower(*byte))?;
+            memory::push(&mut run, lower(*byte))?;
         } else if !run.is_empty() {
-            terms.push(Term::new(run))?;
+            memory::push(&mut terms, Term::new(run))?;
             run = Vec::new(alloc);
         }
     }
     if !run.is_empty() {
-        terms.push(Term::new(run))?;
+        memory::push(&mut terms, Term::new(run))?;
     }
     Ok(terms)
 }

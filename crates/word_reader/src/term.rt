@@ -1,5 +1,6 @@
 //! One term.
-use std::alloc::{AllocError, Global};
+use cell_types::{NoMemory, memory};
+use std::alloc::Global;
 use std::marker::Model;
 
 /// The bytes of one word, at least one. Contracts see the list of them.
@@ -38,11 +39,11 @@ impl Term {
     }
 
     /// The same term once more.
-    pub(crate) fn copy(&self, alloc: Global) -> Result<Term, AllocError>
+    pub(crate) fn copy(&self, alloc: Global) -> Result<Term, NoMemory>
         ensures { IfOk result (λ copy. copy ≡ self.now) }
     {
         let mut bytes = Vec::new(alloc);
-        bytes.extend_from_slice(&self.bytes)?;
+        memory::extend_from_slice(&mut bytes, &self.bytes)?;
         Ok(Term { bytes })
     }
 }

@@ -7,8 +7,8 @@ ghost use Rattle.word_reader.specs.Matching.{AreAmong, KeepsBytes};
 
 use crate::Term;
 use crate::reader::words;
-use cell_types::NoMemory;
-use std::alloc::{AllocError, Global};
+use cell_types::{NoMemory, memory};
+use std::alloc::Global;
 use volume_meaning::WordRule;
 
 /// Whether all of some terms are among the words of bytes that come one by one.
@@ -21,7 +21,7 @@ pub(crate) struct TextMatcher {
 
 impl TextMatcher {
     /// A matcher of these terms, to which no byte was pushed.
-    pub(crate) fn new(alloc: Global, terms: &[Term]) -> Result<TextMatcher, AllocError>
+    pub(crate) fn new(alloc: Global, terms: &[Term]) -> Result<TextMatcher, NoMemory>
         ensures { IfOk result (λ matcher. KeepsBytes matcher terms.now []) }
     {
         Ok(TextMatcher {
@@ -37,7 +37,7 @@ impl TextMatcher {
         ensures err { IfErr result (λ _. (terms : List (List ℕ)) (before : List ℕ) → KeepsBytes self.old terms before
             → KeepsBytes self.new terms before) }
     {
-        self.bytes.extend_from_slice(bytes)?;
+        memory::extend_from_slice(&mut self.bytes, bytes)?;
         Ok(())
     }
 
@@ -61,12 +61,12 @@ impl TextMatcher {
 }
 
 /// The same terms once more.
-fn copies_of(alloc: Global, terms: &[Term]) -> Result<Vec<Term>, AllocError>
+fn copies_of(alloc: Global, terms: &[Term]) -> Result<Vec<Term>, NoMemory>
     ensures { IfOk result (λ copies. copies.items ≡ terms.now) }
 {
-    let mut copies = Vec::with_capacity(alloc, terms.len())?;
+    let mut copies = memory::with_capacity(alloc, terms.len())?;
     for term in terms {
-        copies.push(term.copy(alloc)?)?;
+        memory::push(&mut copies, term.copy(alloc)?)?;
     }
     Ok(copies)
 }

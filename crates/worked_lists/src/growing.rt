@@ -7,7 +7,7 @@ use crate::answer::Answer;
 use crate::laying::{TAG, make_sure, put_planned};
 use crate::searches::List;
 use cell_pool::{GrowthFault, Pool};
-use cell_types::{Cell, Fault};
+use cell_types::{Cell, Fault, NoMemory};
 use jump_block::Entry;
 use jump_insertion::{NewEntry, insert};
 use std::alloc::{AllocError, Global};
@@ -103,7 +103,7 @@ fn plan_over<V: View>(
 fn why(fault: GrowthFault) -> Unplanned {
     match fault {
         GrowthFault::Fault(fault) => Unplanned::Fault(fault),
-        GrowthFault::NoMemory => Unplanned::NoMemory,
+        GrowthFault::NoMemory(_) => Unplanned::NoMemory,
     }
 }
 

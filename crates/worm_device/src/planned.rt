@@ -6,7 +6,7 @@ ghost use Rattle.worm_device.specs.Owned.{AreAsBefore, AreUnplanned};
 
 use crate::Owner;
 use crate::overlay::{OVERLAY_CELLS, PlannedCells};
-use cell_types::{Cell, NoMemory};
+use cell_types::{Cell, NoMemory, memory};
 use std::alloc::Global;
 use std::collections::BTreeMap;
 
@@ -31,12 +31,10 @@ impl PlannedCells {
     {
         // Known of a cell once its bytes are asked for: there are sixteen, and not all of them are zero.
         let _bytes = value.bytes();
-        if self.owners.insert(at, owner).is_err() {
-            return Err(NoMemory);
-        }
-        if self.planned.insert(at, value).is_err() {
+        memory::insert(&mut self.owners, at, owner)?;
+        if let Err(lack) = memory::insert(&mut self.planned, at, value) {
             self.owners.remove(&at);
-            return Err(NoMemory);
+            return Err(lack);
         }
         Ok(())
     }

@@ -5,7 +5,7 @@ ghost use Rattle.worm_memory.specs.Device.{memory_of, room_of, HasMarkRoom};
 
 use crate::moment::{Moment, Timed};
 use crate::{Mark, MemoryDevice};
-use cell_types::{Cell, NoMemory};
+use cell_types::{Cell, NoMemory, memory};
 
 impl MemoryDevice {
     /// Begins a command: the numbers of the command before and the counts so far go into a mark. Then no step and no
@@ -43,9 +43,7 @@ impl MemoryDevice {
         ensures cells { (memory_of self.new).cells ≡ (memory_of self.old).cells }
     {
         let is_early = self.is_early();
-        let Ok(()) = self.schedule.fails.push(moment) else {
-            return Err(NoMemory);
-        };
+        memory::push(&mut self.schedule.fails, moment)?;
         self.by_plan = is_early;
         Ok(())
     }
@@ -77,9 +75,7 @@ impl MemoryDevice {
             at,
             value,
         };
-        let Ok(()) = self.schedule.foreign.push(timed) else {
-            return Err(NoMemory);
-        };
+        memory::push(&mut self.schedule.foreign, timed)?;
         self.by_plan = is_early;
         Ok(())
     }

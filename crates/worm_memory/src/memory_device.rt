@@ -12,7 +12,7 @@ ghost use Rattle.worm_memory.specs.Worlds.{blank, foreign_writes_in, world, AreC
 
 use crate::schedule::Schedule;
 use crate::{CallNumbers, Change, Mark};
-use cell_types::{Cell, NoMemory};
+use cell_types::{Cell, NoMemory, memory};
 use std::alloc::Global;
 use worm_device::{Failed, Written};
 
@@ -110,9 +110,7 @@ impl MemoryDevice {
         }) }
         ensures room { IfOk result (λ device. room_of device ≡ 0) }
     {
-        let Ok(blank) = vec![in alloc; None; cells as usize] else {
-            return Err(NoMemory);
-        };
+        let blank = memory::repeated(alloc, None, cells as usize)?;
         Ok(MemoryDevice {
             cells: blank,
             changes: Vec::new(alloc),
@@ -159,7 +157,7 @@ impl MemoryDevice {
         ensures room { room_of self.new ≡ room_of self.old }
         ensures ready { HasMarkRoom self.old → HasMarkRoom self.new }
     {
-        self.changes.reserve(more).map_err(|_| NoMemory)
+        memory::reserve(&mut self.changes, more)
     }
 
     /// Takes memory for the cells that so many further changes leave unsure.
@@ -171,7 +169,7 @@ impl MemoryDevice {
             → vec_len self.new.changes + more ≤ vec_capacity self.new.changes }
         ensures ready { HasMarkRoom self.old → HasMarkRoom self.new }
     {
-        self.unsure.reserve(more).map_err(|_| NoMemory)
+        memory::reserve(&mut self.unsure, more)
     }
 
     /// Takes memory for which calls make so many further changes.
@@ -185,7 +183,7 @@ impl MemoryDevice {
             → vec_len self.new.unsure + more ≤ vec_capacity self.new.unsure }
         ensures ready { HasMarkRoom self.old → HasMarkRoom self.new }
     {
-        self.made_in.reserve(more).map_err(|_| NoMemory)
+        memory::reserve(&mut self.made_in, more)
     }
 
     /// Takes memory for the mark of one more command.
@@ -195,7 +193,7 @@ impl MemoryDevice {
         ensures room { room_of self.new ≡ room_of self.old }
         ensures enough { HasMarkRoom self.old → IsOk result }
     {
-        self.marks.reserve(1).map_err(|_| NoMemory)
+        memory::reserve(&mut self.marks, 1)
     }
 
     /// How many further changes can be recorded, where that is below 2^32, and else 2^32 - 1.

@@ -6,7 +6,6 @@ ghost use Rattle.worm_memory.specs.Plans.{no_plan, plan_of, names, next_step, is
 
 use crate::CallNumbers;
 use crate::moment::{Moment, Timed};
-use cell_types::NoMemory;
 use std::alloc::Global;
 
 /// The numbers of the present command's calls, and what is planned for it.

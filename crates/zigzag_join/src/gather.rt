@@ -5,8 +5,8 @@ ghost use Rattle.zigzag_join.specs.Gathering.{GatherEnds};
 ghost use Rattle.zigzag_join.specs.Lists.{Keeps};
 
 use crate::{Lists, next_common};
-use cell_types::{MAX_SLOTS, Refusal};
-use std::alloc::{AllocError, Global};
+use cell_types::{MAX_SLOTS, NoMemory, Refusal, memory};
+use std::alloc::Global;
 
 /// All slots that the lists have in common, by rising slot. It passes no slot that no list may pass. Any one list
 /// bounds how often they all are asked, also where there is no answer.
@@ -33,9 +33,9 @@ pub fn all_common<Q: Lists>(alloc: Global, lists: &mut Q) -> Result<Vec<u32>, Re
 }
 
 /// Adds a slot behind the others.
-fn keep(slots: &mut Vec<u32>, slot: u32) -> Result<(), AllocError>
+fn keep(slots: &mut Vec<u32>, slot: u32) -> Result<(), NoMemory>
     ensures { IfOk result (λ _. slots.new.items ≡ slots.old.items ++ slot ∷ []) }
 {
-    slots.push(slot)?;
+    memory::push(slots, slot)?;
     Ok(())
 }

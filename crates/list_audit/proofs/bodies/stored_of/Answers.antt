@@ -10,4 +10,4 @@ unreachable-requires c = none_missing c.requires.spells (omega (arith, c.loop-pl
 pub loop-place-preserved : goal.loop-place-preserved
 loop-place-preserved c = one_cell (image_of_kept c.args.kept.now) c.args.start c.args.bytes c.loop-place.place c.loop-place.invariant
     (omega (arith, c.loop-place-test.true, c.document_cells-place-end.ensures)) c.in-Some.ensures.some
-    (c.in-Ok.ensures.items ∙ ap (λ (n : ℕ). c.loop-place.stored.items ++ take n c.in-Some.held.bytes) c.from.ensures)
+    (c.in_ok-extend_from_slice.ensures.items ∙ ap (λ (n : ℕ). c.loop-place.stored.items ++ take n c.in-Some.held.bytes) c.from.ensures)

@@ -4,7 +4,7 @@ use Rattle.log_audit.proofs.KeptSoFar.{one_more, all_kept}
 use Rattle.log_audit.proofs.keeping.keep_cells.Goals as goal
 
 pub loop-at-preserved : goal.loop-at-preserved
-loop-at-preserved g c = one_more c.loop-at.invariant (c.in-Ok-read).ensures (c.in-Ok-keep_next).ensures
+loop-at-preserved g c = one_more c.loop-at.invariant c.in-Ok.ensures c.in_ok-keep_next.ensures
 
 pub returns-clause-ends : goal.returns-clause-ends
 returns-clause-ends g c =

@@ -13,7 +13,7 @@ returns-in_default c =
 
 pub loop-slot-preserved : goal.loop-slot-preserved
 loop-slot-preserved c = one_more c.in-Some-ended_slot.ended c.loop-slot.invariant (omega (arith, c.loop-slot-test.true, c.slots-slot-end.ensures.slots))
-    c.in-Some-ended_slot.ensures.some c.in-Some-ended_slot.ensures.room c.in-Ok.ensures.items c.end-edge.ensures
+    c.in-Some-ended_slot.ensures.some c.in-Some-ended_slot.ensures.room c.in_ok-push.ensures.items c.end-edge.ensures
 
 pub returns : goal.returns
 returns c = is_log c.loop-slot.invariant

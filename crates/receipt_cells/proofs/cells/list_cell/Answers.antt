@@ -18,5 +18,5 @@ returns g c =
     let h = rw c.in-Some.is at c.in-Ok.ensures in
     record {
       viewed = h.viewed;
-      ends = λ tells. one_listed c.args.at c.in-Some.value _ _ c.in-Ok-add.ensures.image _ _ (sym (h.answer tells));
+      ends = λ tells. one_listed c.args.at c.in-Some.value _ _ c.in_ok-add.ensures.image _ _ (sym (h.answer tells));
     }

@@ -9,9 +9,9 @@ pub list_rows-requires-clause-lists : goal.list_rows-requires-clause-lists
 list_rows-requires-clause-lists g c =
     are_listed (given c.args.volume.now.geometry c.args.body.now c.args.slot c.args.stamp c.rule_of.result
     (c.rule_of.ensures ∙ ap rule_of c.version.ensures.version) c.lists.result
-    c.in-Ok.terms.items c.deref.result.now c.in-Ok-document_postings.rows.items c.deref-2.result.now
-    c.lists.ensures.lists c.requires.stamp c.in-Ok.ensures c.deref.ensures.value
-    c.in-Ok-document_postings.ensures.ok c.deref-2.ensures.value)
+    c.in_ok-terms.terms.items c.deref.result.now c.in-Ok.rows.items c.deref-2.result.now
+    c.lists.ensures.lists c.requires.stamp c.in_ok-terms.ensures c.deref.ensures.value
+    c.in-Ok.ensures.ok c.deref-2.ensures.value)
 
 -- the cells of each trail were listed
 pub returns : goal.returns
@@ -19,9 +19,9 @@ returns g c =
     each_listed c.args.volume.now.geometry c.args.slot c.args.body.now c.args.stamp _ _ _ _ c.deref-2.result.now
     (given c.args.volume.now.geometry c.args.body.now c.args.slot c.args.stamp c.rule_of.result
     (c.rule_of.ensures ∙ ap rule_of c.version.ensures.version) c.lists.result
-    c.in-Ok.terms.items c.deref.result.now c.in-Ok-document_postings.rows.items c.deref-2.result.now
-    c.lists.ensures.lists c.requires.stamp c.in-Ok.ensures c.deref.ensures.value
-    c.in-Ok-document_postings.ensures.ok c.deref-2.ensures.value) c.list_rows.result c.list_rows.ensures
+    c.in_ok-terms.terms.items c.deref.result.now c.in-Ok.rows.items c.deref-2.result.now
+    c.lists.ensures.lists c.requires.stamp c.in_ok-terms.ensures c.deref.ensures.value
+    c.in-Ok.ensures.ok c.deref-2.ensures.value) c.list_rows.result c.list_rows.ensures
 
 -- the postings don't exist
 pub returns-in-Err-TooManyTerms : goal.returns-in-Err-TooManyTerms
@@ -29,6 +29,6 @@ returns-in-Err-TooManyTerms g c =
     none_exist c.args.volume.now.geometry c.args.slot c.args.body.now c.args.stamp _ _ _ _
     (not_listed c.args.volume.now.geometry c.args.slot c.args.body.now c.args.stamp _ c.rule_of.result
     (c.rule_of.ensures ∙ ap rule_of c.version.ensures.version) c.lists.result
-    c.in-Ok.terms.items c.deref.result.now c.in-Err-TooManyTerms.field-0-0 c.in-Err-TooManyTerms.field-0-1
-    c.lists.ensures.lists c.in-Ok.ensures c.deref.ensures.value
+    c.in_ok-terms.terms.items c.deref.result.now c.in-Err-TooManyTerms.field-0-0 c.in-Err-TooManyTerms.field-0-1
+    c.lists.ensures.lists c.in_ok-terms.ensures c.deref.ensures.value
     (rw c.in-Err-TooManyTerms.field-0-is at c.in-Err-TooManyTerms.ensures.err))

@@ -13,7 +13,7 @@ returns-in-Some-first_from g c =
     record {
       viewed = c.list_directly.ensures.viewed;
       ends = λ tells. absurd (none_beyond c.args.slot c.in-Some._bytes c.args.id.now old new c.list_directly.new.listed
-          (rw c.in-Some.is at c.in-Ok-list_directly.ensures)
+          (rw c.in-Some.is at c.in-Ok.ensures)
           (record { slot = c.args.slot; identifier = c.args.id.now; cells = c.list_directly.new.listed }) refl refl refl
           c.in-Some-first_from._beyond.at c.in-Some-first_from._beyond.value
           (g.met.D.Device.proper c.list_directly.new.device) tells beyond.some
@@ -35,9 +35,9 @@ returns-in-Ok-false g c =
     record {
       viewed = c.list_directly.ensures.viewed;
       ends = λ tells. absurd (shown_after_all c.args.slot c.in-Some._bytes c.args.id.now old new
-          c.list_directly.new.listed (rw c.in-Some.is at c.in-Ok-list_directly.ensures)
+          c.list_directly.new.listed (rw c.in-Some.is at c.in-Ok.ensures)
           (record { slot = c.args.slot; identifier = c.new.result; cells = c.list_directly.new.listed }) refl
-          (c.new.ensures ∙ c.in-Ok.ensures.items) refl c.cells-cells.result c.cells-cells.ensures.cells tells
+          (c.new.ensures ∙ c.in_ok-identifier.ensures.items) refl c.cells-cells.result c.cells-cells.ensures.cells tells
           (rw c.in-Ok-false.field-0-test at c.in-Ok-false.ensures));
     }
 
@@ -49,9 +49,9 @@ returns-in-Ok-true g c =
     record {
       viewed = c.list_directly.ensures.viewed;
       ends = slot_receipt c.args.slot c.in-Some._bytes c.args.id.now old new c.list_directly.new.listed
-          (rw c.in-Some.is at c.in-Ok-list_directly.ensures)
+          (rw c.in-Some.is at c.in-Ok.ensures)
           (record { slot = c.args.slot; identifier = c.new.result; cells = c.list_directly.new.listed }) refl
-          (c.new.ensures ∙ c.in-Ok.ensures.items) refl c.cells-cells.result c.len-count.ensures.listed
+          (c.new.ensures ∙ c.in_ok-identifier.ensures.items) refl c.cells-cells.result c.len-count.ensures.listed
           c.cells-cells.ensures.cells
           (are_inside c.cells-cells.result c.list_directly.new.listed
           (omega (arith, c.cells-cells.ensures.cells, (g.met.D.Device.proper c.args.device.now).cells))

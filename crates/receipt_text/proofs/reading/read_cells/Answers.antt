@@ -34,7 +34,7 @@ loop-count-preserved c =
     read_more c.args.size c.args.text.now c.loop-count.count c.loop-count.next c.in-Some-cell_within.found.at
     c.in-Some-cell_within.found.value c.loop-count.cells c.add.new.self c.loop-count.rest.now c.in-Some.cut.front.now
     c.in-Some.cut.rest.now c.loop-count.invariant c.in-Some.ensures.some c.in-Some-cell_within.ensures.some
-    c.in-Some-cell_within.ensures.from c.in-Some-cell_within.ensures.below c.in-Some-cell_within.ensures.written c.in-Ok.ensures.entries
+    c.in-Some-cell_within.ensures.from c.in-Some-cell_within.ensures.below c.in-Some-cell_within.ensures.written c.in_ok-add.ensures.entries
 
 -- as many cells were read as may be, and no newline is left
 pub returns-in_default-cut_at : goal.returns-in_default-cut_at

@@ -35,7 +35,7 @@ returns-then-not-is_empty c =
 pub returns : goal.returns
 returns c =
     let identifier : c.new.result ≡ c.in-Some-head_of.head.identifier.now =
-    c.new.ensures ∙ c.in-Ok-from_slice.ensures.items in
+    c.new.ensures ∙ c.in_ok-identifier.ensures.items in
     rw identifier
     (good_end c.args.cells c.args.text.now c.in-Some.first.front.now c.in-Some.first.rest.now
     c.in-Some-head_of.head.slot c.in-Some-head_of.head.identifier.now c.ranges.cells.fits c.in-Some.ensures.some

@@ -21,32 +21,32 @@ replay-requires-clause-cells g c = omega (arith, c.requires.most, ap (λ (m : Me
 pub replay-requires-clause-events : goal.replay-requires-clause-events
 replay-requires-clause-events g c =
     let cells = (memory_of c.args.device.now).cells in
-    subst (AreEventsOn cells) (sym (c.deref.ensures.value ∙ c.in-Ok.ensures))
+    subst (AreEventsOn cells) (sym (c.deref.ensures.value ∙ c.in_ok-events.ensures))
     (exercise_events_on cells c.args.documents c.requires.some c.requires.most)
 
 pub text_of-requires-clause-all : goal.text_of-requires-clause-all
 text_of-requires-clause-all g c =
     let from = memory_of c.args.device.now in
     let to = memory_of c.replay.new.device in
-    let replies = c.in-Ok-replay.replies.items in
+    let replies = c.in_ok-replies.replies.items in
     ap (λ (l : List Reply). length l) c.deref-3.ensures.value
     ∙ replies_count c.args.documents replies from to
-    (subst (λ (l : List Event). IsWorld l replies from to) (c.deref.ensures.value ∙ c.in-Ok.ensures) c.in-Ok-replay.ensures)
+    (subst (λ (l : List Event). IsWorld l replies from to) (c.deref.ensures.value ∙ c.in_ok-events.ensures) c.in_ok-replies.ensures)
 
-pub returns-in_default : goal.returns-in_default
-returns-in_default g c = unmade refl refl
+pub returns-in_err-events : goal.returns-in_err-events
+returns-in_err-events g c = unmade refl refl
 
-pub returns-in_default-replay : goal.returns-in_default-replay
-returns-in_default-replay g c = unmade refl refl
+pub returns-in_err-replies : goal.returns-in_err-replies
+returns-in_err-replies g c = unmade refl refl
 
 -- an event was refused
 pub returns-in-Some : goal.returns-in-Some
 returns-in-Some g c =
     let from = memory_of c.args.device.now in
     let to = memory_of c.replay.new.device in
-    let replies = c.in-Ok-replay.replies.items in
-    let world = subst (λ (l : List Event). IsWorld l replies from to) (c.deref.ensures.value ∙ c.in-Ok.ensures)
-    c.in-Ok-replay.ensures in
+    let replies = c.in_ok-replies.replies.items in
+    let world = subst (λ (l : List Event). IsWorld l replies from to) (c.deref.ensures.value ∙ c.in_ok-events.ensures)
+    c.in_ok-replies.ensures in
     let first = ap first_refusal (sym c.deref-2.ensures.value) ∙ sym c.first_refusal.ensures ∙ c.in-Some.is in
     refused replies c.in-Some.refusal world first
     (exercise_refused c.plain_is_done.ensures c.acknowledged_are_returned.ensures c.args.documents c.requires.some
@@ -60,16 +60,16 @@ returns-in_default-put_all g c =
     let n = c.args.documents in
     let from = memory_of c.args.device.now in
     let to = memory_of c.replay.new.device in
-    let replies = c.in-Ok-replay.replies.items in
-    let world = subst (λ (l : List Event). IsWorld l replies from to) (c.deref.ensures.value ∙ c.in-Ok.ensures)
-    c.in-Ok-replay.ensures in
+    let replies = c.in_ok-replies.replies.items in
+    let world = subst (λ (l : List Event). IsWorld l replies from to) (c.deref.ensures.value ∙ c.in_ok-events.ensures)
+    c.in_ok-replies.ensures in
     let first = ap first_refusal (sym c.deref-2.ensures.value) ∙ sym c.first_refusal.ensures
-    ∙ c.in_default-first_refusal.is in
+    ∙ c.in_default.is in
     let whole = exercise_whole c.plain_is_done.ensures c.acknowledged_are_returned.ensures c.turns_are_marked.ensures n
     c.requires.most from to c.requires.new replies world first (c.the_count_is_recorded.ensures c.replay.new.device) in
     untold replies world first whole.0 refl
     (subst (λ (l : List ℕ). PutsPart l (g.K.Sink.state c.args.sink.now) (g.K.Sink.state c.put_all.new.sink))
-    (c.as_bytes.ensures.value ∙ c.in-Ok-text_of.ensures ∙ ap (counted_text n) c.deref-3.ensures.value ∙ whole.1)
+    (c.as_bytes.ensures.value ∙ c.in_ok-text.ensures ∙ ap (counted_text n) c.deref-3.ensures.value ∙ whole.1)
     c.in_default-put_all.ensures.part)
 
 -- the lines were put out
@@ -78,14 +78,14 @@ returns g c =
     let n = c.args.documents in
     let from = memory_of c.args.device.now in
     let to = memory_of c.replay.new.device in
-    let replies = c.in-Ok-replay.replies.items in
-    let world = subst (λ (l : List Event). IsWorld l replies from to) (c.deref.ensures.value ∙ c.in-Ok.ensures)
-    c.in-Ok-replay.ensures in
+    let replies = c.in_ok-replies.replies.items in
+    let world = subst (λ (l : List Event). IsWorld l replies from to) (c.deref.ensures.value ∙ c.in_ok-events.ensures)
+    c.in_ok-replies.ensures in
     let first = ap first_refusal (sym c.deref-2.ensures.value) ∙ sym c.first_refusal.ensures
-    ∙ c.in_default-first_refusal.is in
+    ∙ c.in_default.is in
     let whole = exercise_whole c.plain_is_done.ensures c.acknowledged_are_returned.ensures c.turns_are_marked.ensures n
     c.requires.most from to c.requires.new replies world first (c.the_count_is_recorded.ensures c.replay.new.device) in
     told replies world first whole.0 refl
     (subst (λ (l : List ℕ). Gets (g.K.Sink.state c.args.sink.now).held (g.K.Sink.state c.put_all.new.sink).held l)
-    (c.as_bytes.ensures.value ∙ c.in-Ok-text_of.ensures ∙ ap (counted_text n) c.deref-3.ensures.value ∙ whole.1)
-    c.in-Ok-put_all.ensures.whole)
+    (c.as_bytes.ensures.value ∙ c.in_ok-text.ensures ∙ ap (counted_text n) c.deref-3.ensures.value ∙ whole.1)
+    c.in-Ok.ensures.whole)

@@ -5,8 +5,8 @@ use Rattle.worm_memory.specs.Memory.{Memory}
 use Rattle.volume_exercise.specs.Exercising.{ExerciseEnds, exercise_device, unmade}
 use Rattle.record_top.proofs.exercising.exercise_volume.Goals as goal
 
-pub returns-in_default : goal.returns-in_default
-returns-in_default g c = record {
+pub returns-in_err-device : goal.returns-in_err-device
+returns-in_err-device g c = record {
   left = exercise_device c.args.documents;
   ends = unmade refl refl;
   device = refl;
@@ -17,7 +17,7 @@ pub returns : goal.returns
 returns g c = record {
   left = memory_of c.exercise.new.device;
   ends = subst (λ (m : Memory). ExerciseEnds c.args.documents m (memory_of c.exercise.new.device)
-      (g.K.Sink.state c.args.sink.now) (g.K.Sink.state c.exercise.new.sink) c.exercise.result) c.in-Ok.ensures.blank
+      (g.K.Sink.state c.args.sink.now) (g.K.Sink.state c.exercise.new.sink) c.exercise.result) c.in_ok-device.ensures.blank
       c.exercise.ensures;
   device = refl;
   source = refl;

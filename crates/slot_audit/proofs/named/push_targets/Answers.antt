@@ -17,6 +17,6 @@ loop-place-preserved c =
     let has = subst (λ (k : ℕ). HasTarget (image_of_kept c.args.kept.now) (k + c.loop-place.place) c.in-Some.target)
     c.journal_at-first.ensures.at c.in-Some.ensures in
     subst (AddsTargets (image_of_kept c.args.kept.now) c.args.stored.now (c.loop-place.place + 1) c.args.cells.now.items)
-    (sym c.in-Ok.ensures.items)
+    (sym c.in_ok-push.ensures.items)
     (one_more (image_of_kept c.args.kept.now) c.args.stored.now c.loop-place.invariant (omega arith) has
     (λ cell other. one_target other has))

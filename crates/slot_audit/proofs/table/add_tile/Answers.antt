@@ -7,5 +7,5 @@ pub returns-then-has_at_least : goal.returns-then-has_at_least
 returns-then-has_at_least c = with_same (decided_yes _ c.has_at_least.ensures c.if-has_at_least.true)
 
 pub returns : goal.returns
-returns c = with_new c.args.tiles.now c.insert.new.self c.args.tile
-    (decided_no _ c.has_at_least.ensures c.if-has_at_least.false) c.in-Ok.ensures.updates
+returns c = with_new c.args.tiles.now c.insert.new.map c.args.tile
+    (decided_no _ c.has_at_least.ensures c.if-has_at_least.false) c.in_ok-_before.ensures.updates

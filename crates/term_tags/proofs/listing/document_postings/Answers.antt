@@ -6,12 +6,12 @@ use Rattle.term_tags.specs.declared.rows.Posting.{Posting}
 use Rattle.term_tags.proofs.Stamps.{with_stamp}
 use Rattle.term_tags.proofs.listing.document_postings.Goals as goal
 
-pub returns-in-Ok-clause-ok : goal.returns-in-Ok-clause-ok
-returns-in-Ok-clause-ok c = λ g body same may words.
+pub returns-clause-ok : goal.returns-clause-ok
+returns-clause-ok c = λ g body same may words.
     let n = c.args.slot in
     let stamp = c.args.stamp in
     let of_words = map (listed n) c.in_ok-of_words.of_words.items in
-    let is = c.in-Ok.ensures
+    let is = c.in_ok-rows.ensures
     ∙ ap (λ (ps : List Posting). map (listed n) ps ++ time_entries c.args.lists n stamp) c.deref.ensures.value
     ∙ ap (λ (l : ℕ). of_words ++ time_entries l n stamp) (sym same) in
     subst (ArePostings g stamp body n) (sym is)

@@ -30,8 +30,8 @@ returns-in_err-found g c =
     (rw c.in-Some-2.is at c.in_ok-entry.ensures.next) refusal c.in_err-found.ensures)
 
 -- there was no memory for it
-pub returns-in_default-push : goal.returns-in_default-push
-returns-in_default-push g c =
+pub returns-in_err-push : goal.returns-in_err-push
+returns-in_err-push g c =
     not_kept c.args.reach.now c.args.from c.args.to c.in-Some.key c.loop-next.matches.items c.loop-next.last
     (rw c.in-Some.is at c.loop-next.invariant.so_far) c.in-Some-2.entry
     (rw c.in-Some-2.is at c.in_ok-entry.ensures.next) c.in_ok-found.found c.in_ok-found.ensures
@@ -40,7 +40,7 @@ returns-in_default-push g c =
 pub loop-next-preserved : goal.loop-next-preserved
 loop-next-preserved g c = record {
   kept = keeps_on c.next_posting.new.fronts _ _ c.match_of.ensures.viewed c.next_posting.ensures.kept;
-  so_far = rw c.in-Ok.ensures.items
+  so_far = rw c.in_ok-push.ensures.items
       (one_more c.args.reach.now c.args.from c.args.to c.in-Some.key c.loop-next.matches.items c.loop-next.last
       (rw c.in-Some.is at c.loop-next.invariant.so_far) c.in-Some-2.entry
       (rw c.in-Some-2.is at c.in_ok-entry.ensures.next) c.in_ok-found.found c.in_ok-found.ensures

@@ -12,7 +12,7 @@ loop-listed-preserved c =
     let blocks = c.args.blocks.now in let i = c.loop-listed.listed-index in
     let none : ListBlock = record { list = 0; block = 0 } in
     let here : slice_get blocks i ≡ Some (get_or blocks i none) = slice_get-get_or blocks i none (omega (arith, c.loop-listed-test.true)) in
-    one_block (get_or blocks i none) c.from.result c.loop-listed.invariant here c.from.ensures c.in-Ok.ensures.items
+    one_block (get_or blocks i none) c.from.result c.loop-listed.invariant here c.from.ensures c.in_ok-push.ensures.items
 
 pub returns : goal.returns
 returns c =

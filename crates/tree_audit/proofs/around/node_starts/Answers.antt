@@ -12,7 +12,7 @@ loop-place-preserved c =
     let nodes = c.args.nodes.now in let i = c.loop-place.place-index in
     let none : LevelNode = record { level = 0; node = 0 } in
     let here : slice_get nodes i ≡ Some (get_or nodes i none) = slice_get-get_or nodes i none (omega (arith, c.loop-place-test.true)) in
-    one_node (get_or nodes i none) c.from.result c.loop-place.invariant here c.from.ensures c.in-Ok.ensures.items
+    one_node (get_or nodes i none) c.from.result c.loop-place.invariant here c.from.ensures c.in_ok-push.ensures.items
 
 pub returns : goal.returns
 returns c =

@@ -10,7 +10,7 @@ loop-place-preserved-in_default c = leads_nowhere c.loop-place.invariant c.in_de
 
 pub loop-place-preserved : goal.loop-place-preserved
 loop-place-preserved c = leads_on c.loop-place.invariant c.loop-place.auto.place c.in-Some.ensures
-    (omega (arith, c.from.ensures, c.from-in-loop-place.ensures)) c.in-Ok.ensures.items
+    (omega (arith, c.from.ensures, c.from-in-loop-place.ensures)) c.in_ok-push.ensures.items
 
 pub returns : goal.returns
 returns c =

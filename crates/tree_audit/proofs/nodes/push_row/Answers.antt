@@ -7,4 +7,4 @@ pub loop-node-init : goal.loop-node-init
 loop-node-init c = none_added c.args.level c.args.row.now c.args.nodes.now.items
 
 pub loop-node-preserved : goal.loop-node-preserved
-loop-node-preserved c = one_added c.loop-node.invariant refl c.in-Ok.ensures.items
+loop-node-preserved c = one_added c.loop-node.invariant refl c.in_ok-push.ensures.items

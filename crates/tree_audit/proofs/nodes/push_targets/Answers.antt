@@ -12,7 +12,7 @@ pub loop-place-preserved-in_default : goal.loop-place-preserved-in_default
 loop-place-preserved-in_default c = no_child c.loop-place.invariant c.in_default.ensures
 
 pub loop-place-preserved : goal.loop-place-preserved
-loop-place-preserved c = one_child c.loop-place.invariant c.loop-place.auto.place c.in-Some.ensures c.in-Ok.ensures.items
+loop-place-preserved c = one_child c.loop-place.invariant c.loop-place.auto.place c.in-Some.ensures c.in_ok-push.ensures.items
 
 pub returns : goal.returns
 returns c =

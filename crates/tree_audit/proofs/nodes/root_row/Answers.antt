@@ -5,4 +5,4 @@ use Rattle.tree_audit.proofs.nodes.root_row.Goals as goal
 
 pub returns : goal.returns
 returns c = root_level c.root_at.result _ c.root_at.ensures.at
-    (c.in-Ok.ensures.items ∙ ap (λ (xs : List ℕ). xs ++ c.root_at.result ∷ []) c.new-row.ensures.items)
+    (c.in_ok-push.ensures.items ∙ ap (λ (xs : List ℕ). xs ++ c.root_at.result ∷ []) c.new-row.ensures.items)

@@ -7,7 +7,7 @@ use Rattle.tree_audit.proofs.occupied.block_numbers.Goals as goal
 pub loop-block-preserved : goal.loop-block-preserved
 loop-block-preserved c = one_more _ c.loop-block.invariant
     (slice_get-get_or c.args.blocks.now c.loop-block.block-index (record { list = 0; block = 0 }) c.loop-block-test.true)
-    c.number_of.ensures.few (subst (λ (n : ℕ). c.push.new.self.items ≡ c.loop-block.numbers.items ++ n ∷ []) c.number_of.ensures.is c.in-Ok.ensures.items)
+    c.number_of.ensures.few (subst (λ (n : ℕ). c.push.new.items.items ≡ c.loop-block.numbers.items ++ n ∷ []) c.number_of.ensures.is c.in_ok-push.ensures.items)
 
 pub returns : goal.returns
 returns c = all_numbers c.loop-block.invariant (omega (arith, c.loop-block-test.false, c.loop-block.auto.block-index-end))

@@ -11,7 +11,7 @@ use Rattle.word_reader.specs.Single.{SingleEnds}
 use Rattle.word_reader.specs.declared.reader.WordFault.{WordFault}
 use Rattle.volume_commands.specs.Finding.{IsFirstBadWord, IsOneTerm}
 use Rattle.volume_commands.proofs.Terms.{TermsSoFar, are_terms, first_bad, term_again, term_new, word_at}
-use Rattle.volume_commands.proofs.find.terms_of.Goals.{then-all+in-Ok-push, else-all}
+use Rattle.volume_commands.proofs.find.terms_of.Goals.{then-all+in_ok-push, else-all}
 use Rattle.volume_commands.proofs.find.terms_of.Goals as goal
 
 -- whether the term is none of these
@@ -49,8 +49,8 @@ loop-word-preserved c =
     (YieldsList-from_slice terms (c.iter.ensures.rest ∙ c.deref.ensures.value)) (λ x q k. search (rules, tests))
     (λ x q k. search (rules, tests)) in
     elim c.if-all.branch [
-      | then-all+in-Ok-push w ↦
-          let items = ap (λ v. v.items) w.terms-is ∙ w.in-Ok-push.ensures.items in (
+      | then-all+in_ok-push w ↦
+          let items = ap (λ v. v.items) w.terms-is ∙ w.in_ok-push.ensures.items in (
             omega (arith, c.loop-word.invariant.0),
             subst more (sym items)
                 (term_new so_far (string_bytes word) term at is

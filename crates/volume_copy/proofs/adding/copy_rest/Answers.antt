@@ -27,8 +27,8 @@ returns-in-Err g c =
     }
 
 -- there was no memory for its pair
-pub returns-in_default : goal.returns-in_default
-returns-in_default g c =
+pub returns-in_err-push : goal.returns-in_err-push
+returns-in_err-push g c =
     record {
       from_read = read_then c.loop-place.invariant.from_read c.in-Ok.ensures.from_read;
       to_called = called_then c.loop-place.invariant.to_called c.in-Ok.ensures.to_called;
@@ -47,4 +47,4 @@ loop-place-preserved g c =
     let more = rest_more c.requires.source c.loop-place.invariant (g.met.D.Device.proper c.loop-place.from)
     (g.met.E.Device.proper c.loop-place.to) (g.met.E.Device.proper c.copy_next.new.to) (omega (arith, c.loop-place-test.true, c.len-place-end.ensures))
     c.in-Ok.pair c.in-Ok.ensures in
-    search (rules, more, c.in-Ok-push.ensures.items)
+    search (rules, more, c.in_ok-push.ensures.items)

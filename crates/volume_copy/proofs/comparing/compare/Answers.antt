@@ -38,8 +38,8 @@ returns-in-Err g c =
     (omega (arith, c.loop-place-test.true, c.len-place-end.ensures)) c.in-Err.refusal c.in-Err.ensures
 
 -- there was no memory for its pair
-pub returns-in_default : goal.returns-in_default
-returns-in_default g c = record {
+pub returns-in_err-push : goal.returns-in_err-push
+returns-in_err-push g c = record {
   from_read = read_then c.loop-place.invariant.from_read c.in-Ok.ensures.from_read;
   to_read = read_then c.loop-place.invariant.to_read c.in-Ok.ensures.to_read;
   same = tt;
@@ -56,7 +56,7 @@ loop-place-preserved g c =
     (g.met.E.Device.proper c.compare_next.new.to)
     (omega (arith, c.if-place-len.false, c.len.ensures))
     (omega (arith, c.loop-place-test.true, c.len-place-end.ensures)) c.in-Ok.pair c.in-Ok.ensures in
-    search (rules, more, c.in-Ok-push.ensures.items)
+    search (rules, more, c.in_ok-push.ensures.items)
 
 -- all were compared
 pub returns : goal.returns

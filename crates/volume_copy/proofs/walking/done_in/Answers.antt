@@ -23,7 +23,7 @@ loop-slot-preserved-in_default g c =
 pub loop-slot-preserved : goal.loop-slot-preserved
 loop-slot-preserved g c =
     let one = walk_one c.loop-slot.invariant c.slot_part.ensures.viewed (rw c.in-Some.is at c.in_ok-found.ensures.ends) in
-    search (rules, one, c.in-Ok.ensures)
+    search (rules, one, c.in_ok-push.ensures)
 
 -- all were asked
 pub returns-clause-ends : goal.returns-clause-ends

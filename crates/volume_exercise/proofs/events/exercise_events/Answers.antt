@@ -9,8 +9,8 @@ pub returns : goal.returns
 returns c =
     let n = c.args.documents in
     rows_joined (format_event n) audit_event (ingests n) singles pairs (look_ups n) c.new-events.result.items
-    c.push.new.self.items c.push_ingests.new.events.items c.push_singles.new.events.items c.push_pairs.new.events.items
-    c.push_look_ups.new.events.items c.push-2.new.self.items c.new-events.ensures.items
+    c.push.new.items.items c.push_ingests.new.events.items c.push_singles.new.events.items c.push_pairs.new.events.items
+    c.push_look_ups.new.events.items c.push-2.new.items.items c.new-events.ensures.items
     (c.in_ok-push.ensures.items ∙ ap (λ (e : Event). c.new-events.result.items ++ e ∷ []) c.format_event.ensures)
     c.in_ok-push_ingests.ensures c.in_ok-push_singles.ensures c.in_ok-push_pairs.ensures c.in_ok-push_look_ups.ensures
     (c.in_ok-push-2.ensures.items ∙ ap (λ (e : Event). c.push_look_ups.new.events.items ++ e ∷ []) c.audit_event.ensures)

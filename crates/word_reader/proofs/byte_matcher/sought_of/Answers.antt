@@ -10,7 +10,7 @@ pub loop-term-preserved : goal.loop-term-preserved
 loop-term-preserved c =
     let done = c.loop-term.sought.items in
     let front = take c.loop-term.term-index c.args.terms.now in
-    let one : Sought = record { bytes = c.extend_from_slice.new.self; found = false; agrees = true; front = 0 } in
+    let one : Sought = record { bytes = c.extend_from_slice.new.items; found = false; agrees = true; front = 0 } in
     let same : one.bytes.items ≡ c.term-item.result = search rules in
     let more = all_last done front one c.term-item.result c.loop-term.invariant same (tracks_none c.term-item.result) in
     let taken : take (c.loop-term.term-index + 1) c.args.terms.now ≡ front ++ c.term-item.result ∷ [] =

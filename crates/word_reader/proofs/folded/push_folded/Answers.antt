@@ -12,7 +12,7 @@ returns-then-is_empty c = λ ok.
 pub loop-one-preserved : goal.loop-one-preserved
 loop-one-preserved c =
     let folded = c.full_folding-folded.result.now in
-    let more : string_bytes c.push-in-loop-one.new.self ≡ string_bytes c.loop-one.run ++ encode_utf8 c.one-item.result = search rules in
+    let more : string_bytes c.push_char-in-loop-one.new.text ≡ string_bytes c.loop-one.run ++ encode_utf8 c.one-item.result = search rules in
     put_more (string_bytes c.args.run.now) folded _ _ c.loop-one.one-index c.one-item.result c.loop-one-test.true c.one-item.is c.loop-one.invariant more
 
 pub returns : goal.returns

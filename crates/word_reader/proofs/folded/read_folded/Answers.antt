@@ -23,7 +23,7 @@ loop-at-preserved-then-not-is_empty c =
     let run = string_bytes c.loop-at.run in
     let read = behind bytes c.loop-at.at n.result.1 n.result.0 n.ensures.unit in
     let some : 0 < length run = search rules in
-    let more : c.push.new.self.items ≡ c.loop-at.terms.items ++ run ∷ [] = search rules in
+    let more : c.push.new.items.items ≡ c.loop-at.terms.items ++ run ∷ [] = search rules in
     let fresh : string_bytes c.new-run-then-not-is_empty.result ≡ [] = search rules in (
       inside bytes c.loop-at.at n.result.1 c.loop-at.invariant.0 n.ensures.most,
       rw (more, fresh) (word_ends c.loop-at.terms.items (words_of Folded bytes) run _ _ n.result.0 read c.loop-at.invariant.1

@@ -7,11 +7,11 @@ use Rattle.word_reader.proofs.reader.single_term.Goals as goal
 pub returns-then-len-ne1 : goal.returns-then-len-ne1
 returns-then-len-ne1 c = λ term are.
     let one = words_are_one.one c.args.rule c.args.word.now (term ∷ []) are in
-    let all : length c.in-Ok.terms.items ≡ c.len.result = search rules in
-    c.if-len-ne1.true (sym all ∙ ap length (c.in-Ok.ensures ∙ sym one))
+    let all : length c.in_ok-terms.terms.items ≡ c.len.result = search rules in
+    c.if-len-ne1.true (sym all ∙ ap length (c.in_ok-terms.ensures ∙ sym one))
 
 pub returns : goal.returns
 returns c =
-    let all : length c.in-Ok.terms.items ≡ c.len.result = search rules in
+    let all : length c.in_ok-terms.terms.items ≡ c.len.result = search rules in
     are_words c.args.rule c.args.word.now (c.remove.result ∷ [])
-    (sym (one_item c.in-Ok.terms.items c.remove.result (all ∙ c.if-len-ne1.false) c.remove.ensures.value) ∙ c.in-Ok.ensures)
+    (sym (one_item c.in_ok-terms.terms.items c.remove.result (all ∙ c.if-len-ne1.false) c.remove.ensures.value) ∙ c.in_ok-terms.ensures)

@@ -8,6 +8,6 @@ use Rattle.log_audit.proofs.chunked.ChunkedRows.push.Goals as goal
 pub returns-clause-adds : goal.returns-clause-adds
 returns-clause-adds c =
     let mid = c.make_room.new.self in
-    ap (λ (last : List WrittenCell). rows_over mid.full.items last) c.in-Ok.ensures.items
+    ap (λ (last : List WrittenCell). rows_over mid.full.items last) c.in_ok-push.ensures.items
     ∙ push_over mid.full.items mid.last.items c.args.row
     ∙ ap (λ (rows : List WrittenCell). rows ++ c.args.row ∷ []) c.in_ok-make_room.ensures.stays
