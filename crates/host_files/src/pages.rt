@@ -77,7 +77,9 @@ impl Pages {
             used: 0,
             bytes: [0; PAGE_BYTES],
         };
-        let pages = memory::repeated(alloc, room, PAGES)?;
+        let Ok(pages) = vec![in alloc; room; PAGES] else {
+            return Err(memory::lacked_elsewhere());
+        };
         Ok(Pages {
             pages,
             uses: 0,

@@ -34,3 +34,14 @@ pub record SinkMemory : Type 0 where
 -- what it is as a sink
 abbrev pub sink_of : SinkMemory → SinkState
 sink_of m = record { held = Some m.held; faults = m.faults }
+
+-- a sink that gathers what it gets
+pub record GatheredBytes : Type 0 where
+  -- the bytes that it holds
+  pub held : List ℕ
+  -- how many calls have failed
+  pub faults : ℕ
+
+-- what it is as a sink
+abbrev pub gathered_of : GatheredBytes → SinkState
+gathered_of g = record { held = Some g.held; faults = g.faults }

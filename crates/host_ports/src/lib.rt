@@ -23,6 +23,7 @@
 //! source does.
 #![tactic(auto)]
 
+mod gathered;
 mod memory;
 mod meter;
 mod schedule;
@@ -31,6 +32,7 @@ mod source;
 mod standard;
 mod whole;
 
+pub use gathered::Gathered;
 pub use memory::{MemorySink, MemorySource};
 pub use meter::{Meter, Silent, Work};
 pub use sink::Sink;

@@ -93,7 +93,7 @@ impl ListedCells {
     {
         for (at, value) in self.cells.iter() {
             let line = line_of_cell(alloc, *at, *value)?;
-            print_line(text, line.as_bytes())?;
+            print_line(text, &line)?;
         }
         Ok(())
     }

@@ -1,5 +1,5 @@
 //! The text of a receipt.
-ghost use Rattle.std.specs.Prelude.{◌≡◌, ◌++◌, ◌∷◌, [], IfOk, OnOk, string_bytes};
+ghost use Rattle.std.specs.Prelude.{◌≡◌, ◌++◌, ◌∷◌, [], IfOk, OnOk};
 ghost use Rattle.receipt_text.specs.Form.{cell_line, head_line, text_of_lines, text_of_receipt};
 
 use crate::Receipt;
@@ -48,10 +48,15 @@ pub(crate) fn print_line(text: &mut Vec<u8>, line: &[u8]) -> Result<(), NoMemory
 }
 
 /// The line of a cell, without its newline.
-pub(crate) fn line_of_cell(alloc: Global, at: u32, value: Cell) -> Result<String, NoMemory>
-    ensures { IfOk result (λ text. string_bytes text ≡ cell_line (at, value)) }
+pub(crate) fn line_of_cell(alloc: Global, at: u32, value: Cell) -> Result<Vec<u8>, NoMemory>
+    ensures { IfOk result (λ text. text.items ≡ cell_line (at, value)) }
 {
     let bytes = value.bytes();
-    let digits = hex::encode(alloc, &bytes).map_err(|_| memory::lacked_elsewhere())?;
-    memory::format(alloc, format_args!("{at} {digits}"))
+    let mut digits = [0; 32];
+    let Ok(()) = hex::encode_to_slice(bytes, &mut digits) else {
+        unreachable!()
+    };
+    let mut line = memory::format(alloc, format_args!("{at} "))?.into_bytes();
+    memory::extend_from_slice(&mut line, &digits)?;
+    Ok(line)
 }

@@ -43,7 +43,9 @@ impl MemoryDevice {
         ensures cells { (memory_of self.new).cells ≡ (memory_of self.old).cells }
     {
         let is_early = self.is_early();
-        memory::push(&mut self.schedule.fails, moment)?;
+        let Ok(()) = self.schedule.fails.push(moment) else {
+            return Err(memory::lacked_elsewhere());
+        };
         self.by_plan = is_early;
         Ok(())
     }
@@ -75,7 +77,9 @@ impl MemoryDevice {
             at,
             value,
         };
-        memory::push(&mut self.schedule.foreign, timed)?;
+        let Ok(()) = self.schedule.foreign.push(timed) else {
+            return Err(memory::lacked_elsewhere());
+        };
         self.by_plan = is_early;
         Ok(())
     }

@@ -38,7 +38,7 @@ returns-clause-ok c = λ g body same words n.
     let counted = subst (λ (n : ℕ). AreCounts n keys counts) (sym same)
     (subst (λ (ks : List ℕ). AreCounts c.args.lists ks counts) c.deref-2.ensures.value c.in_ok-counts.ensures) in
     let fit = subst (λ (n : ℕ). AllFit counts n) (sym same)
-    (subst (λ (cs : List ℕ). AllFit cs c.args.lists) c.deref-3.ensures.value c.in_default-first_over.ensures.fit) in
+    (subst (λ (cs : List ℕ). AllFit cs c.args.lists) c.deref-3.ensures.value c.in_default.ensures.fit) in
     let is = c.in_ok-rows.ensures ∙ ap posting_rows c.deref-4.ensures.value in
     subst (λ (rows : List Posting). ArePostings g None body n (map (listed n) rows)) (sym is)
     (are_postings g body terms keys words keyed

@@ -13,9 +13,9 @@ loop-at-init c =
 
 pub loop-at-preserved : goal.loop-at-preserved
 loop-at-preserved c =
-    print_more c.loop-at.text.items c.print_line.new.text.items c.as_bytes.result.now c.loop-at.at-iterator
+    print_more c.loop-at.text.items c.print_line.new.text.items c.deref.result.now c.loop-at.at-iterator
     c.next.new.self
-    (c.in-Some.at.now, c.in-Some.value.now) c.in_ok-print_line.ensures (c.as_bytes.ensures.value ∙ c.in_ok-line.ensures)
+    (c.in-Some.at.now, c.in-Some.value.now) c.in_ok-print_line.ensures (c.deref.ensures.value ∙ c.in_ok-line.ensures)
     (rest_more deref_pair _ _ _ (c.in-Some.at, c.in-Some.value) c.in-Some.is c.next.ensures.steps)
     ∙ c.loop-at.invariant
 

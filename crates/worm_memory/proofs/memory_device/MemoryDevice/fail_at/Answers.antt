@@ -56,20 +56,20 @@ with_fails d l = record { fails = l; stop = d.stop; foreign = d.foreign.items }
 pub invariant_of-self-clause-ran : goal.invariant_of-self-clause-ran
 invariant_of-self-clause-ran c = λ is. let d = c.args.self.now in
     subst (λ l. ∥ HasRun (with_fails d.schedule l) d.marks.items (course_of (memory_of d)) ∥₁)
-    (sym c.in_err-push.ensures.items) (d.ran is)
+    (sym c.in_default.ensures.items) (d.ran is)
 
 pub invariant_of-self-clause-none_failed : goal.invariant_of-self-clause-none_failed
 invariant_of-self-clause-none_failed c = λ is may. let d = c.args.self.now in d.none_failed is
-    (sym (ap (λ l. may_fail (with_fails d.schedule l) d.schedule.steps d.schedule.calls) c.in_err-push.ensures.items) ∙ may)
+    (sym (ap (λ l. may_fail (with_fails d.schedule l) d.schedule.steps d.schedule.calls) c.in_default.ensures.items) ∙ may)
 
 pub invariant_of-self-clause-most_failed : goal.invariant_of-self-clause-most_failed
 invariant_of-self-clause-most_failed c = λ is may few. let d = c.args.self.now in
-    let same = ap (λ l. failures_reached (with_fails d.schedule l) d.schedule.steps d.schedule.calls) c.in_err-push.ensures.items in
+    let same = ap (λ l. failures_reached (with_fails d.schedule l) d.schedule.steps d.schedule.calls) c.in_default.ensures.items in
     omega (arith, same, d.most_failed is may few)
 
 pub invariant_of-self-clause-some_failed : goal.invariant_of-self-clause-some_failed
 invariant_of-self-clause-some_failed c = λ is must. let d = c.args.self.now in d.some_failed is
-    (sym (ap (λ l. must_fail (with_fails d.schedule l) d.schedule.steps d.schedule.calls) c.in_err-push.ensures.items) ∙ must)
+    (sym (ap (λ l. must_fail (with_fails d.schedule l) d.schedule.steps d.schedule.calls) c.in_default.ensures.items) ∙ must)
 
 pub invariant_of-self-clause-none_written : goal.invariant_of-self-clause-none_written
 invariant_of-self-clause-none_written c = c.args.self.now.none_written

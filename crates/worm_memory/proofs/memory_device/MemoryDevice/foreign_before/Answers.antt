@@ -43,7 +43,7 @@ abbrev timed : In-Ok → Timed
 timed c = record { before = c.args.moment; at = c.args.at; value = c.args.value }
 
 pushed : (c : In-Ok) → c.push.new.self.items ≡ c.args.self.now.schedule.foreign.items ++ timed c ∷ []
-pushed c = c.in_ok-push.ensures.items
+pushed c = c.in-Ok.ensures.items
 
 pub invariant_of-self-2-clause-none_written : goal.invariant_of-self-2-clause-none_written
 invariant_of-self-2-clause-none_written c = λ is may.
@@ -80,33 +80,33 @@ pub invariant_of-self-clause-ran : goal.invariant_of-self-clause-ran
 invariant_of-self-clause-ran c = λ is.
     let d = c.args.self.now in
     subst (λ (l : List Timed). ∥ HasRun (record (plan_of d.schedule) { foreign = l }) d.marks.items
-    (course_of (memory_of d)) ∥₁) (sym c.in_err-push.ensures.items) (d.ran is)
+    (course_of (memory_of d)) ∥₁) (sym c.in_default.ensures.items) (d.ran is)
 
 pub invariant_of-self-clause-none_written : goal.invariant_of-self-clause-none_written
 invariant_of-self-clause-none_written c = λ is may.
     let d = c.args.self.now in
     d.none_written is
-    (sym (ap (list_any (is_due d.schedule.steps d.schedule.calls)) c.in_err-push.ensures.items) ∙ may)
+    (sym (ap (list_any (is_due d.schedule.steps d.schedule.calls)) c.in_default.ensures.items) ∙ may)
 
 pub invariant_of-self-clause-most_written : goal.invariant_of-self-clause-most_written
 invariant_of-self-clause-most_written c = λ is few.
     let d = c.args.self.now in
-    let same = ap (count_by (is_due d.schedule.steps d.schedule.calls)) c.in_err-push.ensures.items in
+    let same = ap (count_by (is_due d.schedule.steps d.schedule.calls)) c.in_default.ensures.items in
     omega (arith, same, d.most_written is few)
 
 pub invariant_of-self-clause-named : goal.invariant_of-self-clause-named
 invariant_of-self-clause-named c = λ is.
     let d = c.args.self.now in
     ap (λ l. list_all (is_called_for d.schedule.steps d.schedule.calls l)
-    (drop (last_changes d.marks.items) d.changes.items)) c.in_err-push.ensures.items ∙ d.named is
+    (drop (last_changes d.marks.items) d.changes.items)) c.in_default.ensures.items ∙ d.named is
 
 pub invariant_of-self-clause-stands : goal.invariant_of-self-clause-stands
 invariant_of-self-clause-stands c = λ is.
     let d = c.args.self.now in
     ap (list_all (stands_if_reached d.schedule.steps d.schedule.calls (world d.changes.items).image))
-    c.in_err-push.ensures.items ∙ d.stands is
+    c.in_default.ensures.items ∙ d.stands is
 
 pub invariant_of-self-clause-planned_inside : goal.invariant_of-self-clause-planned_inside
 invariant_of-self-clause-planned_inside c =
     let device = c.args.self.now in
-    subst (AreWritesInside (vec_len device.cells)) (sym c.in_err-push.ensures.items) device.planned_inside
+    subst (AreWritesInside (vec_len device.cells)) (sym c.in_default.ensures.items) device.planned_inside
