@@ -1,6 +1,7 @@
 pub mod Entries
 pub mod Fronts
 pub mod Keeping
+pub mod KeptRows
 pub mod Known
 pub mod Pointers
 pub mod Pointing

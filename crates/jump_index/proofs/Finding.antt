@@ -1,18 +1,22 @@
 -- What a search from a list's first block finds, by the search's answer.
-use Rattle.std.proofs.Common.{◌≤◌, ◌^◌, ℕ, Some, None, Ok, Err, arith}
+use Rattle.std.proofs.Common.{◌≤◌, ◌+◌, ◌^◌, ℕ, Option, Some, None, Result, Ok, Err, arith, sym, subst}
+use Rattle.std.specs.Prelude.{IsTrue}
 use Rattle.cell_types.specs.declared.refusal.Fault.{Fault}
 use Rattle.cell_types.specs.declared.refusal.Fault.TheVariants.{Tampered, Failed}
 use Rattle.volume_meaning.specs.Blocks.{PostingFields, here, on}
 use Rattle.volume_meaning.proofs.Fronts.{front_holds, front_on}
 use Rattle.worm_device.specs.Views.{ViewState, Viewed}
+use Rattle.worm_device.proofs.Resting.{viewed_then}
+use Rattle.jump_block.proofs.Counting.{rose_later}
 use Rattle.jump_block.specs.declared.held_entry.Entry.{Entry}
 use Rattle.jump_index.specs.Looking.{SearchesBlock}
 use Rattle.jump_block.specs.Pointing.{HasKeyIn}
-use Rattle.jump_index.specs.Searches.{FindsGeq, HasBoundedTrail}
+use Rattle.jump_index.specs.Searches.{FindEntryEnds, FindsGeq, HasBoundedTrail}
 use Rattle.jump_index.specs.declared.bounds.Bounds.{Bounds}
 use Rattle.jump_index.specs.declared.looked.Looked.TheVariants.{Found, Nothing, NoKey}
 use Rattle.jump_index.proofs.Descending.{trail_fits}
 use Rattle.jump_index.proofs.Licence.{licensed}
+use Rattle.jump_index.proofs.LookingLater.{entry_then, trail_then}
 
 -- from a block whose front is empty no posting has a trail
 no_trail : (bounds : Bounds) (head : ℕ) (old new : ViewState) → Viewed old new
@@ -82,4 +86,35 @@ module _ (bounds : Bounds) (head x : ℕ) (old new : ViewState) where
       λ tells. licensed new.cells new.image bounds head e
           (omega (arith, edge, search.viewed.cells)) (search.ends.1 tells),
     );
+  }
+
+-- a search behind a look that found nothing
+module _ (bounds : Bounds) (head x : ℕ) (old mid new : ViewState) (viewed : Viewed old mid)
+    (reads : mid.base.reads ≤ old.base.reads + 128) where
+  told : IsTrue old.base.tells → IsTrue mid.base.tells
+  told tells = subst IsTrue (sym viewed.called.tells) tells
+
+  ends_behind : (result : Result (Option Entry) Fault) → FindEntryEnds bounds head x mid new result
+      → FindEntryEnds bounds head x old new result
+  ends_behind (Ok (Some e)) ends = (
+    ends.0,
+    entry_then old mid e viewed ends.1,
+    λ tells.
+        let found = ends.2 (told tells) in (
+          found.0,
+          λ at p trail asked. found.1 at p (trail_then bounds head at p old mid viewed trail) asked,
+          found.2,
+        ),
+  )
+  ends_behind (Ok None) ends =
+      λ tells at p trail asked. ends (told tells) at p (trail_then bounds head at p old mid viewed trail) asked
+  ends_behind (Err Failed) ends = rose_later _ _ _ viewed.called.faults ends
+  ends_behind (Err (Tampered e)) ends = (ends.0, λ tells. ends.1 (told tells))
+
+  pub finds_behind : (result : Result (Option Entry) Fault) → new.base.reads ≤ mid.base.reads + 3600
+      → FindsGeq bounds head x mid new result → FindsGeq bounds head x old new result
+  finds_behind result few finds = record {
+    viewed = viewed_then viewed finds.viewed;
+    reads = omega (arith, reads, few);
+    ends = ends_behind result finds.ends;
   }

@@ -7,3 +7,4 @@ pub mod LookingLater
 pub mod Passing
 pub mod PointerReads
 pub mod Telling
+pub mod Ways

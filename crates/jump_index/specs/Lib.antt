@@ -1,3 +1,4 @@
 pub mod Evidence
+pub mod Keeping
 pub mod Looking
 pub mod Searches

@@ -27,9 +27,13 @@
 
 mod bounds;
 mod here;
+mod kept_hops;
+mod kept_search;
 mod later;
 mod looked;
+mod near;
 mod search;
 
 pub use bounds::Bounds;
+pub use kept_search::KeptSearch;
 pub use search::{find_geq, find_geq_from_kept};

@@ -4,13 +4,17 @@ ghost use Rattle.volume_meaning.specs.declared.blocks.TheConstants.{BLOCK_CELLS}
 ghost use Rattle.jump_block.specs.Keeping.{AreFrontsKept};
 ghost use Rattle.jump_block.specs.Spans.{IsSpan};
 ghost use Rattle.jump_block.specs.Pointing.{HasFull};
+ghost use Rattle.jump_index.specs.Keeping.{AreHopsKept, IsSearchKept};
 ghost use Rattle.jump_index.specs.Looking.{FirstPointer, IsEntryWithin, LooksOn, SearchesBlock};
 ghost use Rattle.jump_index.specs.Searches.{FindsGeq};
 
 use crate::bounds::Bounds;
 use crate::here::look_here;
+use crate::kept_hops::{KeptHop, KeptHops};
+use crate::kept_search::KeptSearch;
 use crate::later::look_later;
 use crate::looked::{Here, Looked};
+use crate::near::find_near;
 use cell_types::Fault;
 use jump_block::{Entry, KeptFronts, Span, leads_nowhere, pointer, span};
 use worm_device::View;
@@ -27,26 +31,39 @@ pub fn find_geq<V: View>(
     requires edge { bounds.edge ≤ (V.seen view.old).cells }
     ensures { FindsGeq bounds head x (V.seen view.old) (V.seen view.new) result }
 {
-    let mut fronts = KeptFronts::new();
-    find_geq_from_kept(view, &mut fronts, head, x, bounds)
+    let mut kept = KeptSearch::new();
+    find_geq_from_kept(view, &mut kept, head, x, bounds)
 }
 
-/// The same with fronts that the caller keeps from one search to the next, over one device: what is known of a block's
-/// front is not read again.
+/// The same with what the caller keeps from one search to the next, over one device: what is known already is not read
+/// again, and where the search before has ended is looked first.
 pub fn find_geq_from_kept<V: View>(
     view: &mut V,
-    fronts: &mut KeptFronts,
+    kept: &mut KeptSearch,
     head: u32,
     x: u32,
     bounds: Bounds,
 ) -> Result<Option<Entry>, Fault>
     requires head { head + BLOCK_CELLS ≤ (V.seen view.old).cells }
     requires edge { bounds.edge ≤ (V.seen view.old).cells }
-    requires kept { IsTrue (V.seen view.old).base.tells → AreFrontsKept (V.seen view.old).image fronts.old }
-    ensures kept { IsTrue (V.seen view.old).base.tells → AreFrontsKept (V.seen view.new).image fronts.new }
+    requires kept { IsTrue (V.seen view.old).base.tells → IsSearchKept (V.seen view.old).image kept.old }
+    ensures kept { IsTrue (V.seen view.old).base.tells → IsSearchKept (V.seen view.new).image kept.new }
     ensures finds { FindsGeq bounds head x (V.seen view.old) (V.seen view.new) result }
 {
-    match search(view, fronts, bounds, head, x, 0, 1 << 32, 8) {
+    if let Some(near) = find_near(view, kept, head, x, bounds)? {
+        return Ok(Some(near));
+    }
+    match search(
+        view,
+        &mut kept.fronts,
+        &mut kept.hops,
+        bounds,
+        head,
+        x,
+        0,
+        1 << 32,
+        8,
+    ) {
         Ok(Looked::Found(entry)) => Ok(Some(entry)),
         Ok(Looked::Nothing) => Ok(None),
         // No pointer leads to the first block, which may be empty.
@@ -60,6 +77,7 @@ pub fn find_geq_from_kept<V: View>(
 fn search<V: View>(
     view: &mut V,
     fronts: &mut KeptFronts,
+    hops: &mut KeptHops,
     bounds: Bounds,
     block: u32,
     x: u32,
@@ -70,11 +88,13 @@ fn search<V: View>(
     requires inside { block + BLOCK_CELLS ≤ (V.seen view.old).cells }
     requires edge { bounds.edge ≤ (V.seen view.old).cells }
     requires kept { IsTrue (V.seen view.old).base.tells → AreFrontsKept (V.seen view.old).image fronts.old }
+    requires hops { IsTrue (V.seen view.old).base.tells → AreHopsKept (V.seen view.old).image hops.old }
     requires narrow { bound ≤ low + 16 ^ level }
     requires from { low ≤ x }
     requires below { x < bound }
     requires level { level ≤ 8 }
     ensures kept { IsTrue (V.seen view.old).base.tells → AreFrontsKept (V.seen view.new).image fronts.new }
+    ensures hops { IsTrue (V.seen view.old).base.tells → AreHopsKept (V.seen view.new).image hops.new }
     ensures looks { SearchesBlock bounds block x low bound level (V.seen view.old) (V.seen view.new) result }
 {
     let here = look_here(view, fronts, block, x, low, bound, level)?;
@@ -87,9 +107,16 @@ fn search<V: View>(
     let Some(target) = to else {
         return look_on(view, fronts, bounds, block, l, first, bound);
     };
+    hops.keep(KeptHop {
+        block,
+        greatest: l,
+        span: first,
+        target,
+    });
     match search(
         view,
         fronts,
+        hops,
         bounds,
         target,
         x,

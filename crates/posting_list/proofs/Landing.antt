@@ -5,43 +5,44 @@ use Rattle.cell_types.specs.declared.refusal.Fault.{Fault}
 use Rattle.worm_device.specs.Views.{ViewState, Viewed}
 use Rattle.worm_device.proofs.Resting.{viewed_then}
 use Rattle.jump_block.specs.declared.held_entry.Entry.{Entry}
-use Rattle.jump_block.specs.declared.kept_fronts.KeptFronts.{KeptFronts}
+use Rattle.jump_index.specs.declared.kept_search.KeptSearch.{KeptSearch}
 use Rattle.jump_index.specs.Searches.{FindsGeq}
-use Rattle.jump_index.proofs.Telling.{kept_then, told, told_before}
+use Rattle.jump_index.proofs.Telling.{told, told_before}
+use Rattle.jump_index.proofs.Ways.{search_on}
 use Rattle.jump_block.proofs.OneBlock.{leads_wider}
 use Rattle.jump_block.specs.Entries.{posting_of}
 use Rattle.volume_meaning.proofs.Fronts.{front_holds}
 use Rattle.volume_meaning.proofs.Extending.{holds_on}
-use Rattle.posting_list.specs.Keeping.{KeepEach, KeepsFronts}
+use Rattle.posting_list.specs.Keeping.{KeepEach, KeepsSearch}
 use Rattle.posting_list.specs.Searches.{IsFalsePosting, LooksLive, NextSlot, head_of, within}
 use Rattle.posting_list.specs.declared.reach.Reach.{Reach}
 use Rattle.posting_list.specs.declared.sought_term.SoughtTerm.{SoughtTerm}
 use Rattle.posting_list.proofs.Evidence.{false_posting, find_fault, says_later}
 use Rattle.posting_list.proofs.Owed.{leads_on, owed_trail}
 
--- what is kept of fronts stays known
-pub keeps_on : (fronts : KeptFronts) (s t : ViewState) → Viewed s t → KeepsFronts s fronts → KeepsFronts t fronts
-keeps_on fronts s t viewed kept = λ tells. kept_then viewed kept (told_before viewed tells)
+-- what is kept of a list stands on
+pub keeps_on : (kept : KeptSearch) (s t : ViewState) → Viewed s t → KeepsSearch s kept → KeepsSearch t kept
+keeps_on kept s t viewed keeps = λ tells. search_on viewed.image (keeps (told_before viewed tells))
 
 -- where one of some is put anew, each is as it was or this one
-each_set : {P : KeptFronts → Type 0} (all : List KeptFronts) (k : ℕ) (now : KeptFronts)
-    → ((i : ℕ) (f : KeptFronts) → slice_get all i ≡ Some f → P f) → P now
-    → (i : ℕ) (f : KeptFronts) → slice_get (slice_set all k now) i ≡ Some f → P f
+each_set : {P : KeptSearch → Type 0} (all : List KeptSearch) (k : ℕ) (now : KeptSearch)
+    → ((i : ℕ) (f : KeptSearch) → slice_get all i ≡ Some f → P f) → P now
+    → (i : ℕ) (f : KeptSearch) → slice_get (slice_set all k now) i ≡ Some f → P f
 each_set [] k now was is i f e = absurd (none_some f e) where
-  none_some : (f : KeptFronts) → None ≡ Some f → ⊥
+  none_some : (f : KeptSearch) → None ≡ Some f → ⊥
   none_some f e = cc
-each_set {P} (x ∷ xs) zero now was is zero f e = subst P (some_fronts now f e) is where
-  some_fronts : (a b : KeptFronts) → Some a ≡ Some b → a ≡ b
-  some_fronts a b e = cc
+each_set {P} (x ∷ xs) zero now was is zero f e = subst P (some_search now f e) is where
+  some_search : (a b : KeptSearch) → Some a ≡ Some b → a ≡ b
+  some_search a b e = cc
 each_set (x ∷ xs) zero now was is (suc i) f e = was (suc i) f e
 each_set (x ∷ xs) (suc k) now was is zero f e = was zero f e
 each_set {P} (x ∷ xs) (suc k) now was is (suc i) f e =
     each_set {P = P} xs k now (λ j. was (suc j)) is i f e
 
--- so what each of them keeps goes on being known
-pub keep_each_on : (all : List KeptFronts) (k : ℕ) (now : KeptFronts) (s t : ViewState) → Viewed s t → KeepEach s all
-    → KeepsFronts t now → KeepEach t (slice_set all k now)
-keep_each_on all k now s t viewed each is = each_set {P = KeepsFronts t} all k now
+-- so what each of them keeps stands on
+pub keep_each_on : (all : List KeptSearch) (k : ℕ) (now : KeptSearch) (s t : ViewState) → Viewed s t → KeepEach s all
+    → KeepsSearch t now → KeepEach t (slice_set all k now)
+keep_each_on all k now s t viewed each is = each_set {P = KeepsSearch t} all k now
     (λ i f e. keeps_on f s t viewed (each i f e)) is
 
 module _ (r : Reach) (term : SoughtTerm) (from : ℕ) (old mid new : ViewState)

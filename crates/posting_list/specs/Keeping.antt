@@ -1,9 +1,11 @@
--- What is kept of fronts from one search to the next, as a fact that a holder of a view carries.
+-- What is kept of a list from one search to the next, as a fact that a holder of a view carries.
 use Rattle.std.specs.Prelude.{◌≡◌, ◌<◌, ◌+◌, ℕ, List, Some, IsTrue, slice_get}
 use Rattle.std.proofs.Common.{ap, subst, sym, arith, ◌∙◌}
 use Rattle.std.proofs.Props.{props}
 use Rattle.cell_types.specs.Image.{Image}
 use Rattle.cell_types.specs.Records.{IsRecordCell}
+use Rattle.cell_types.specs.declared.record_cell.RecordCell.{RecordCell}
+use Rattle.cell_types.specs.declared.record_cell.RecordCell.TheVariants.{Jump}
 use Rattle.volume_meaning.specs.Volumes.{Holds}
 use Rattle.volume_meaning.proofs.Holding.{some_is}
 use Rattle.volume_meaning.specs.Blocks.{PostingFields, posting_record, InFront, at_the_start, behind}
@@ -12,16 +14,26 @@ use Rattle.jump_block.specs.Fronts.{HasKeyAt}
 use Rattle.jump_block.specs.Keeping.{AreFrontsKept}
 use Rattle.jump_block.specs.Known.{IsKnown}
 use Rattle.jump_block.specs.declared.kept_fronts.KeptFronts.{KeptFronts}
+use Rattle.jump_block.specs.declared.kept_row.KeptRow.{KeptRow}
 use Rattle.jump_block.specs.declared.known_front.KnownFront.{KnownFront}
+use Rattle.jump_block.specs.KeptRows.{IsRowKept}
+use Rattle.jump_block.specs.Pointing.{HasPointer}
+use Rattle.jump_index.specs.Keeping.{AreHopsKept, IsHopKept, IsSearchKept}
+use Rattle.jump_index.specs.declared.kept_hops.KeptHop.{KeptHop}
+use Rattle.jump_index.specs.declared.kept_hops.KeptHops.{KeptHops}
+use Rattle.jump_index.specs.declared.kept_search.KeptSearch.{KeptSearch}
 use Rattle.worm_device.specs.Views.{ViewState}
 
--- where the view tells its image, each front that is kept is known in it
-abbrev pub KeepsFronts : ViewState → KeptFronts → Type 0
-KeepsFronts s fronts = IsTrue s.base.tells → AreFrontsKept s.image fronts
+-- where the view tells its image, what is kept stands in it
+abbrev pub KeepsSearch : ViewState → KeptSearch → Type 0
+KeepsSearch s kept = IsTrue s.base.tells → IsSearchKept s.image kept
 
 -- A holder carries a fact of which there is one proof at most. So it is of each that is part of this one.
 is_cell_prop : (at : ℕ) (p : PostingFields) (cell : List ℕ) → IsProp (IsRecordCell (posting_record p) at cell)
 is_cell_prop at p cell = Prim.hlevel props
+
+is_jump_prop : (at target : ℕ) (cell : List ℕ) → IsProp (IsRecordCell (Jump target) at cell)
+is_jump_prop at target cell = Prim.hlevel props
 
 stands_prop : (image : Image) (at : ℕ) (cell : List ℕ) → IsProp (image at ≡ Some cell)
 stands_prop image at cell = Prim.hlevel props
@@ -29,21 +41,25 @@ stands_prop image at cell = Prim.hlevel props
 is_prop : (a b : ℕ) → IsProp (a ≡ b)
 is_prop a b = Prim.hlevel props
 
-holds_prop : (image : Image) (at : ℕ) (p : PostingFields) → IsProp (Holds image at (posting_record p))
-holds_prop image at p h k =
+one_holds : (r : RecordCell) (image : Image) (at : ℕ) → ((cell : List ℕ) → IsProp (IsRecordCell r at cell))
+    → IsProp (Holds image at r)
+one_holds r image at one_cell h k =
     one (some_is h.cell k.cell (sym h.stands ∙ k.stands)) h.stands k.stands h.is k.is where
-      made : (cell : List ℕ) → image at ≡ Some cell → IsRecordCell (posting_record p) at cell
-          → Holds image at (posting_record p)
+      made : (cell : List ℕ) → image at ≡ Some cell → IsRecordCell r at cell → Holds image at r
       made cell stands is = record { cell = cell; stands = stands; is = is }
 
-      one : {c d : List ℕ} → c ≡ d → (s : image at ≡ Some c) (t : image at ≡ Some d)
-          → (i : IsRecordCell (posting_record p) at c) (j : IsRecordCell (posting_record p) at d)
-          → made c s i ≡ made d t j
+      one : {c d : List ℕ} → c ≡ d → (s : image at ≡ Some c) (t : image at ≡ Some d) → (i : IsRecordCell r at c)
+          (j : IsRecordCell r at d) → made c s i ≡ made d t j
       one {c} e s t i j = subst
-          (λ (d : List ℕ). (t : image at ≡ Some d) (j : IsRecordCell (posting_record p) at d)
-          → made c s i ≡ made d t j) e
+          (λ (d : List ℕ). (t : image at ≡ Some d) (j : IsRecordCell r at d) → made c s i ≡ made d t j) e
           (λ t j. ap (λ (x : image at ≡ Some c). made c x i) (stands_prop image at c s t)
-          ∙ ap (λ (x : IsRecordCell (posting_record p) at c). made c t x) (is_cell_prop at p c i j)) t j
+          ∙ ap (λ (x : IsRecordCell r at c). made c t x) (one_cell c i j)) t j
+
+holds_prop : (image : Image) (at : ℕ) (p : PostingFields) → IsProp (Holds image at (posting_record p))
+holds_prop image at p = one_holds (posting_record p) image at (is_cell_prop at p)
+
+has_pointer_prop : (image : Image) (block level digit target : ℕ) → IsProp (HasPointer image block level digit target)
+has_pointer_prop image block level digit target = one_holds (Jump target) image _ (is_jump_prop _ target)
 
 less_prop : (a b : ℕ) → IsProp (a < b)
 less_prop a b = Prim.hlevel props
@@ -118,12 +134,21 @@ is_known_prop image f = Prim.hlevel (props, has_key_prop)
 are_kept_prop : (image : Image) (fronts : KeptFronts) → IsProp (AreFrontsKept image fronts)
 are_kept_prop image fronts = Prim.hlevel (props, is_known_prop)
 
-pub keeps_fronts_prop : (s : ViewState) (fronts : KeptFronts) → IsProp (KeepsFronts s fronts)
-keeps_fronts_prop s fronts = Prim.hlevel (props, are_kept_prop)
+is_row_prop : (image : Image) (row : KeptRow) → IsProp (IsRowKept image row)
+is_row_prop image row = Prim.hlevel (props, stands_prop)
 
--- so each of some kept fronts is
-abbrev pub KeepEach : ViewState → List KeptFronts → Type 0
-KeepEach s all = (i : ℕ) (fronts : KeptFronts) → slice_get all i ≡ Some fronts → KeepsFronts s fronts
+is_hop_prop : (image : Image) (hop : KeptHop) → IsProp (IsHopKept image hop)
+is_hop_prop image hop = Prim.hlevel (props, has_key_prop, has_pointer_prop)
 
-pub keep_each_prop : (s : ViewState) (all : List KeptFronts) → IsProp (KeepEach s all)
-keep_each_prop s all = Prim.hlevel (props, keeps_fronts_prop)
+are_hops_prop : (image : Image) (hops : KeptHops) → IsProp (AreHopsKept image hops)
+are_hops_prop image hops = Prim.hlevel (props, is_hop_prop)
+
+pub keeps_search_prop : (s : ViewState) (kept : KeptSearch) → IsProp (KeepsSearch s kept)
+keeps_search_prop s kept = Prim.hlevel (props, are_kept_prop, is_row_prop, are_hops_prop)
+
+-- so each of some kept searches does
+abbrev pub KeepEach : ViewState → List KeptSearch → Type 0
+KeepEach s all = (i : ℕ) (kept : KeptSearch) → slice_get all i ≡ Some kept → KeepsSearch s kept
+
+pub keep_each_prop : (s : ViewState) (all : List KeptSearch) → IsProp (KeepEach s all)
+keep_each_prop s all = Prim.hlevel (props, keeps_search_prop)

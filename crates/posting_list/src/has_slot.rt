@@ -2,7 +2,7 @@
 ghost use Rattle.std.specs.Prelude.{◌≡◌, ◌<◌, ◌≤◌, ◌+◌, ◌↔◌, IsTrue};
 ghost use Rattle.byteorder.specs.Endian.{big_number};
 ghost use Rattle.cell_types.specs.declared.geometry.TheConstants.{MAX_SLOTS};
-ghost use Rattle.posting_list.specs.Keeping.{KeepsFronts};
+ghost use Rattle.posting_list.specs.Keeping.{KeepsSearch};
 ghost use Rattle.posting_list.specs.Searches.{HasSlot, Probes};
 ghost use Rattle.posting_list.specs.declared.has_slot.TheConstants.{HAS_READS};
 
@@ -10,7 +10,8 @@ use crate::search::find_in_list;
 use crate::{Reach, SoughtTerm};
 use byteorder::{BigEndian, ByteOrder};
 use cell_types::Fault;
-use jump_block::{Entry, KeptFronts};
+use jump_block::Entry;
+use jump_index::KeptSearch;
 use worm_device::View;
 
 /// How many reads one ask whether a list has a slot may cost: those of nine searches.
@@ -33,19 +34,19 @@ pub(crate) fn is_same(a: &[u8; 6], b: &[u8; 6]) -> bool
 /// The posting of a key, if there is one under this very key.
 fn probe<V: View>(
     view: &mut V,
-    fronts: &mut KeptFronts,
+    kept: &mut KeptSearch,
     reach: &Reach,
     list: u16,
     key: u32,
 ) -> Result<Option<Entry>, Fault>
     requires size { reach.now.volume.geometry.cells ≡ (V.seen view.old).cells }
     requires list { list < reach.now.volume.geometry.lists }
-    requires kept { KeepsFronts (V.seen view.old) fronts.old }
-    ensures kept { KeepsFronts (V.seen view.new) fronts.new }
+    requires kept { KeepsSearch (V.seen view.old) kept.old }
+    ensures kept { KeepsSearch (V.seen view.new) kept.new }
     ensures reads { (V.seen view.new).base.reads ≤ (V.seen view.old).base.reads + 4096 }
     ensures probes { Probes reach.now list key (V.seen view.old) (V.seen view.new) result }
 {
-    let found = find_in_list(view, fronts, reach, list, key)?;
+    let found = find_in_list(view, kept, reach, list, key)?;
     let Some(entry) = found else {
         return Ok(None);
     };
@@ -60,7 +61,7 @@ fn probe<V: View>(
 /// one where the slot has a single posting there.
 pub(crate) fn has_slot<V: View>(
     view: &mut V,
-    fronts: &mut KeptFronts,
+    kept: &mut KeptSearch,
     reach: &Reach,
     term: &SoughtTerm,
     slot: u32,
@@ -68,13 +69,13 @@ pub(crate) fn has_slot<V: View>(
     requires size { reach.now.volume.geometry.cells ≡ (V.seen view.old).cells }
     requires list { term.now.list < reach.now.volume.geometry.lists }
     requires slot { slot < MAX_SLOTS }
-    requires kept { KeepsFronts (V.seen view.old) fronts.old }
-    ensures kept { KeepsFronts (V.seen view.new) fronts.new }
+    requires kept { KeepsSearch (V.seen view.old) kept.old }
+    ensures kept { KeepsSearch (V.seen view.new) kept.new }
     ensures reads { (V.seen view.new).base.reads ≤ (V.seen view.old).base.reads + HAS_READS }
     ensures has { HasSlot reach.now term.now slot (V.seen view.old) (V.seen view.new) result }
 {
     let sought = number_of(&term.tag);
-    let first = probe(view, fronts, reach, term.list, 256 * slot)?;
+    let first = probe(view, kept, reach, term.list, 256 * slot)?;
     let Some(first) = first else {
         return Ok(false);
     };
@@ -86,7 +87,7 @@ pub(crate) fn has_slot<V: View>(
     let mut high = u32::from(first.last) + 1;
     while low < high {
         let middle = low + (high - low) / 2;
-        let found = probe(view, fronts, reach, term.list, 256 * slot + middle)?;
+        let found = probe(view, kept, reach, term.list, 256 * slot + middle)?;
         let Some(entry) = found else {
             return Ok(false);
         };

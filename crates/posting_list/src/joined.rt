@@ -1,7 +1,6 @@
 //! The lists of terms, as the join asks them.
-use crate::has_slot::has_slot;
-use crate::next_slot::next_slot;
-use crate::term_lists::FRONTS;
+use crate::own_search::{next_of_own, own_has};
+use crate::term_lists::SEARCHES;
 use crate::{SoughtTerm, TermLists};
 use cell_types::{Fault, MAX_SLOTS, Refusal};
 use std::alloc::Global;
@@ -101,8 +100,15 @@ impl<'a, V: View> Lists for TermLists<'a, V> {
             return Ok(None);
         };
         let reach = self.reach;
-        let own = which as usize % FRONTS;
-        next_slot(&mut *self.view, &mut self.fronts[own], &reach, &term, from)
+        let own = which as usize % SEARCHES;
+        next_of_own(
+            &mut *self.view,
+            &mut self.searches,
+            own,
+            &reach,
+            &term,
+            from,
+        )
     }
 
     fn has(&mut self, which: u32, slot: u32) -> Result<bool, Fault> {
@@ -111,7 +117,14 @@ impl<'a, V: View> Lists for TermLists<'a, V> {
             return Ok(false);
         };
         let reach = self.reach;
-        let own = which as usize % FRONTS;
-        has_slot(&mut *self.view, &mut self.fronts[own], &reach, &term, slot)
+        let own = which as usize % SEARCHES;
+        own_has(
+            &mut *self.view,
+            &mut self.searches,
+            own,
+            &reach,
+            &term,
+            slot,
+        )
     }
 }

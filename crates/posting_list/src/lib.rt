@@ -25,8 +25,8 @@
 //!
 //! **Memory** is taken before: `SoughtTerms` holds each term's list and tag. `TermLists` is made of it over a view that
 //! is lent to it, and making it can't fail: a constructor that answers a `Result`, or a view that is held by value,
-//! would lose the device that was lent. For each list it keeps fronts of blocks from one search to the next, and a
-//! ghost field says that what the view shows has them.
+//! would lose the device that was lent. For each list it keeps what is known of it from one search to the next, and a
+//! ghost field says that what the view shows has it.
 //!
 //! **What it costs** is counted: how often a list was asked for its next slot, and how often whether it has one. The
 //! slots of any one term's postings bound what a join asks for. An ask for a next slot makes at most 4,100 reads, and
@@ -44,6 +44,7 @@ mod joined;
 mod laws;
 mod live;
 mod next_slot;
+mod own_search;
 mod reach;
 mod search;
 mod sought_term;

@@ -2,28 +2,28 @@
 ghost use Rattle.std.specs.Prelude.{◌≡◌, ◌<◌};
 ghost use Rattle.cell_types.specs.Layout.{all_lists};
 ghost use Rattle.jump_index.specs.Searches.{FindsGeq};
-ghost use Rattle.posting_list.specs.Keeping.{KeepsFronts};
+ghost use Rattle.posting_list.specs.Keeping.{KeepsSearch};
 ghost use Rattle.posting_list.specs.Searches.{head_of, within};
 
 use crate::Reach;
 use cell_types::Fault;
-use jump_block::{Entry, KeptFronts};
-use jump_index::{Bounds, find_geq_from_kept};
+use jump_block::Entry;
+use jump_index::{Bounds, KeptSearch, find_geq_from_kept};
 use worm_device::View;
 
-/// The first entry of a list at or past a key, with fronts that are kept from one search to the next. The time list, where
+/// The first entry of a list at or past a key, with what is kept of the list from one search to the next. The time list, where
 /// there is one, is the last. Where the bounds end behind the volume's cells, they end with these. At most 4,096 reads.
 pub fn find_in_list<V: View>(
     view: &mut V,
-    fronts: &mut KeptFronts,
+    kept: &mut KeptSearch,
     reach: &Reach,
     list: u16,
     key: u32,
 ) -> Result<Option<Entry>, Fault>
     requires size { reach.now.volume.geometry.cells ≡ (V.seen view.old).cells }
     requires list { list < all_lists reach.now.volume.geometry }
-    requires kept { KeepsFronts (V.seen view.old) fronts.old }
-    ensures kept { KeepsFronts (V.seen view.new) fronts.new }
+    requires kept { KeepsSearch (V.seen view.old) kept.old }
+    ensures kept { KeepsSearch (V.seen view.new) kept.new }
     ensures finds { FindsGeq (within reach.now) (head_of reach.now list) key (V.seen view.old) (V.seen view.new)
         result }
 {
@@ -32,5 +32,5 @@ pub fn find_in_list<V: View>(
         pool: reach.bounds.pool,
         edge: reach.bounds.edge.min(geometry.cells()),
     };
-    find_geq_from_kept(view, fronts, geometry.list_at(list), key, bounds)
+    find_geq_from_kept(view, kept, geometry.list_at(list), key, bounds)
 }

@@ -3,26 +3,25 @@ ghost use Rattle.posting_list.specs.Keeping.{KeepEach, keep_each_prop};
 
 use crate::{Reach, SoughtTerms};
 use cell_types::Volume;
-use jump_block::KeptFronts;
-use jump_index::Bounds;
+use jump_index::{Bounds, KeptSearch};
 use worm_device::View;
 
-/// How many lists have fronts of their own: as many as a query has terms.
-pub(crate) const FRONTS: usize = 8;
+/// How many lists have a search of their own that is kept: as many as a query has terms.
+pub(crate) const SEARCHES: usize = 8;
 
-/// The lists of some terms over a view: one a term, in their order. Each list keeps fronts of its own, else two lists
-/// would put each other's fronts out at every turn of the join. From the ninth on a list shares them with one before.
+/// The lists of some terms over a view: one a term, in their order. Each list keeps a search of its own, else two lists
+/// would put out what the other has kept at every turn of the join. From the ninth on a list shares it with one before.
 #[derive(Drop)]
 pub struct TermLists<'a, V: View> {
     pub view: &'a mut V,
     pub sought: &'a SoughtTerms,
     pub reach: Reach,
-    pub(crate) fronts: [KeptFronts; FRONTS],
+    pub(crate) searches: [KeptSearch; SEARCHES],
     /// How often a list was asked for its next slot.
     pub next_asks: u64,
     /// How often one was asked whether it has a slot.
     pub has_asks: u64,
-    ghost kept: { KeepEach (V.seen view.now) fronts } by { keep_each_prop (V.seen view.now) fronts },
+    ghost kept: { KeepEach (V.seen view.now) searches } by { keep_each_prop (V.seen view.now) searches },
 }
 
 impl<'a, V: View> TermLists<'a, V> {
@@ -42,7 +41,7 @@ impl<'a, V: View> TermLists<'a, V> {
         ensures reach { result.reach ≡ record { volume = volume; horizon = horizon; bounds = bounds } }
         ensures unasked { (result.next_asks ≡ 0) × (result.has_asks ≡ 0) }
     {
-        let unknown = KeptFronts::new();
+        let unknown = KeptSearch::new();
         TermLists {
             view,
             sought,
@@ -51,7 +50,7 @@ impl<'a, V: View> TermLists<'a, V> {
                 horizon,
                 bounds,
             },
-            fronts: [unknown; FRONTS],
+            searches: [unknown; SEARCHES],
             next_asks: 0,
             has_asks: 0,
         }

@@ -6,7 +6,8 @@ use Rattle.jump_block.proofs.Knowing.{kept_on, key_on}
 use Rattle.jump_index.proofs.Descending.{passed_blank, passed_nothing, found_behind, fault_behind, no_key_behind, then_on}
 use Rattle.jump_block.proofs.OneBlock.{level_falls}
 use Rattle.jump_index.proofs.LookingLater.{fault_then}
-use Rattle.jump_index.proofs.Telling.{told_before}
+use Rattle.jump_index.proofs.Telling.{told, told_before}
+use Rattle.jump_index.proofs.Ways.{hops_on}
 use Rattle.jump_index.proofs.search.+search.Goals as goal
 
 pub returns-in_err-here-clause-looks : goal.returns-in_err-here-clause-looks
@@ -27,6 +28,26 @@ returns-in-Ends-clause-looks g t c =
       reads = omega (arith, h.reads);
       ends = h.ends c.args.bounds;
     }
+
+pub returns-in_err-here-clause-hops : goal.returns-in_err-here-clause-hops
+returns-in_err-here-clause-hops g t c = λ tells. hops_on c.look_here.ensures.looks.viewed.image (c.requires.hops tells)
+
+pub returns-in-Ends-clause-hops : goal.returns-in-Ends-clause-hops
+returns-in-Ends-clause-hops g t c = λ tells. hops_on c.look_here.ensures.looks.viewed.image (c.requires.hops tells)
+
+pub returns-in_err-to-clause-hops : goal.returns-in_err-to-clause-hops
+returns-in_err-to-clause-hops g t c = λ tells.
+    hops_on c.first_pointer.ensures.viewed.image (hops_on c.look_here.ensures.looks.viewed.image (c.requires.hops tells))
+
+pub returns-in_default-clause-hops : goal.returns-in_default-clause-hops
+returns-in_default-clause-hops g t c = λ tells.
+    hops_on c.look_on.ensures.looks.viewed.image (hops_on c.first_pointer.ensures.viewed.image
+    (hops_on c.look_here.ensures.looks.viewed.image (c.requires.hops tells)))
+
+pub returns-in-Ok-Nothing-clause-hops : goal.returns-in-Ok-Nothing-clause-hops
+returns-in-Ok-Nothing-clause-hops g t c = λ tells.
+    hops_on c.look_on-in-Ok-Nothing.ensures.looks.viewed.image (c.search.ensures.hops
+    (told c.first_pointer.ensures.viewed (told c.look_here.ensures.looks.viewed tells)))
 
 pub returns-in_err-to-clause-looks : goal.returns-in_err-to-clause-looks
 returns-in_err-to-clause-looks g t c =
@@ -65,7 +86,18 @@ search-requires g t c = λ κs lives.
             (
               λ tells. kept_on f.viewed.image (c.look_here.ensures.kept
                   (told_before h.viewed (told_before f.viewed tells))),
-              (omega (arith, s.is.high), (s.low, (s.high, omega (arith, falls, c.requires.level)))),
+              (
+                λ tells.
+                    let before = told_before h.viewed (told_before f.viewed tells) in
+                    c.keep.ensures (g.V.View.seen c.first_pointer.new.view).image
+                    (hops_on f.viewed.image (hops_on h.viewed.image (c.requires.hops before)))
+                    (record {
+                      span = s.is;
+                      full = key_on f.viewed.image (h.ends.2 before);
+                      jump = f.ends.2 (told_before f.viewed tells);
+                    }),
+                (omega (arith, s.is.high), (s.low, (s.high, omega (arith, falls, c.requires.level)))),
+              ),
             ),
           ),
         ),

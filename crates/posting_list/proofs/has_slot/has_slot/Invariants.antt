@@ -1,12 +1,12 @@
 -- The ordinals that are left.
 use Rattle.std.proofs.Common.{◌-◌}
-use Rattle.posting_list.specs.Keeping.{KeepsFronts}
+use Rattle.posting_list.specs.Keeping.{KeepsSearch}
 use Rattle.posting_list.proofs.Bisecting.{HasSoFar, IsNarrowed}
 use Rattle.posting_list.proofs.has_slot.has_slot.Given as goal
 
 abbrev pub invariant-loop-low : goal.invariant-loop-low
 invariant-loop-low g l = record {
-  kept : KeepsFronts (g.V.View.seen l.view) l.fronts;
+  kept : KeepsSearch (g.V.View.seen l.view) l.kept;
   so_far : HasSoFar l.reach l.term l.slot (g.V.View.seen l.fn.view) (g.V.View.seen l.view) l.low l.high;
   narrowed : IsNarrowed (g.V.View.seen l.fn.view) (g.V.View.seen l.view) l.low l.high;
 }

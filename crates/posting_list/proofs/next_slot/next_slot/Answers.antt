@@ -21,7 +21,7 @@ returns-in_default-clause-next g c =
 
 -- the slot's cells give no answer
 pub returns-in_err-live-clause-kept : goal.returns-in_err-live-clause-kept
-returns-in_err-live-clause-kept g c = keeps_on c.find_in_list.new.fronts _ _ c.is_live.ensures.live.viewed c.find_in_list.ensures.kept
+returns-in_err-live-clause-kept g c = keeps_on c.find_in_list.new.kept _ _ c.is_live.ensures.live.viewed c.find_in_list.ensures.kept
 
 pub returns-in_err-live-clause-next : goal.returns-in_err-live-clause-next
 returns-in_err-live-clause-next g c =
@@ -32,7 +32,7 @@ returns-in_err-live-clause-next g c =
 
 -- the posting's slot is not live
 pub returns-then-not-live-clause-kept : goal.returns-then-not-live-clause-kept
-returns-then-not-live-clause-kept g c = keeps_on c.find_in_list.new.fronts _ _ c.is_live.ensures.live.viewed c.find_in_list.ensures.kept
+returns-then-not-live-clause-kept g c = keeps_on c.find_in_list.new.kept _ _ c.is_live.ensures.live.viewed c.find_in_list.ensures.kept
 
 pub returns-then-not-live-clause-next : goal.returns-then-not-live-clause-next
 returns-then-not-live-clause-next g c =
@@ -43,7 +43,7 @@ returns-then-not-live-clause-next g c =
 
 -- it is
 pub returns-clause-kept : goal.returns-clause-kept
-returns-clause-kept g c = keeps_on c.find_in_list.new.fronts _ _ c.is_live.ensures.live.viewed c.find_in_list.ensures.kept
+returns-clause-kept g c = keeps_on c.find_in_list.new.kept _ _ c.is_live.ensures.live.viewed c.find_in_list.ensures.kept
 
 pub returns-clause-next : goal.returns-clause-next
 returns-clause-next g c =

@@ -1,9 +1,8 @@
 -- What the search for a slot says, of the lists.
-use Rattle.std.proofs.Common.{◌%◌, arith, refl, rules}
+use Rattle.std.proofs.Common.{arith, refl, rules}
 use Rattle.worm_device.proofs.Resting.{viewed_self}
 use Rattle.posting_list.proofs.Evidence.{false_never}
 use Rattle.posting_list.proofs.Joining.{has_ends, keeps_has, none_owed}
-use Rattle.posting_list.proofs.Landing.{keep_each_on}
 use Rattle.posting_list.proofs.joined.TermListsLists.has.Goals as goal
 
 -- the list can't be asked
@@ -24,20 +23,12 @@ pub returns-clause-kept : goal.returns-clause-kept
 returns-clause-kept g c =
     keeps_has c.args.self.now.reach c.args.self.now.sought.now.terms.items c.args.self.now.view.ghost_name
     (g.V.View.seen c.args.self.now.view.now)
-    (g.V.View.seen c.has_slot.new.view) _ _ _ _ c.has_slot.ensures.has.viewed refl (search rules) (search rules)
-    c.has_slot.ensures.reads
+    (g.V.View.seen c.own_has.new.view) _ _ _ _ c.own_has.ensures.has.viewed refl (search rules) (search rules)
+    c.own_has.ensures.reads
 
 pub returns-clause-ends : goal.returns-clause-ends
 returns-clause-ends g c =
     has_ends c.args.self.now.reach c.args.self.now.sought.now.terms.items c.args.self.now.view.ghost_name
     (g.V.View.seen c.args.self.now.view.now)
-    (g.V.View.seen c.has_slot.new.view) 0 0 0 0 c.args.which c.in-Some.term c.in-Some.ensures.there c.args.slot
-    c.has_slot.result c.has_slot.ensures.has
-
--- what the list's own fronts keep is known now, and what the others do goes on being known
-pub invariant_of-self-2 : goal.invariant_of-self-2
-invariant_of-self-2 g c = record {
-  kept = keep_each_on c.args.self.now.fronts (c.args.which % 8) c.has_slot.new.fronts
-      (g.V.View.seen c.args.self.now.view.now) (g.V.View.seen c.has_slot.new.view) c.has_slot.ensures.has.viewed
-      c.args.self.now.kept c.has_slot.ensures.kept;
-}
+    (g.V.View.seen c.own_has.new.view) 0 0 0 0 c.args.which c.in-Some.term c.in-Some.ensures.there c.args.slot
+    c.own_has.result c.own_has.ensures.has

@@ -1,8 +1,7 @@
 -- What the search for the next slot says, of the lists.
-use Rattle.std.proofs.Common.{◌%◌, arith, refl, rules}
+use Rattle.std.proofs.Common.{arith, refl, rules}
 use Rattle.worm_device.proofs.Resting.{viewed_self}
 use Rattle.posting_list.proofs.Joining.{keeps_next, land_ends, none_owed}
-use Rattle.posting_list.proofs.Landing.{keep_each_on}
 use Rattle.posting_list.proofs.Owed.{owed_small}
 use Rattle.posting_list.proofs.joined.TermListsLists.land.Goals as goal
 
@@ -34,20 +33,12 @@ pub returns-clause-kept : goal.returns-clause-kept
 returns-clause-kept g c =
     keeps_next c.args.self.now.reach c.args.self.now.sought.now.terms.items c.args.self.now.view.ghost_name
     (g.V.View.seen c.args.self.now.view.now)
-    (g.V.View.seen c.next_slot.new.view) _ _ _ _ c.next_slot.ensures.next.viewed (search rules) refl (search rules)
-    c.next_slot.ensures.reads
+    (g.V.View.seen c.next_of_own.new.view) _ _ _ _ c.next_of_own.ensures.next.viewed (search rules) refl (search rules)
+    c.next_of_own.ensures.reads
 
 pub returns-clause-ends : goal.returns-clause-ends
 returns-clause-ends g c =
     land_ends c.args.self.now.reach c.args.self.now.sought.now.terms.items c.args.self.now.view.ghost_name
     (g.V.View.seen c.args.self.now.view.now)
-    (g.V.View.seen c.next_slot.new.view) 0 0 0 0 c.args.which c.in-Some.term c.in-Some.ensures.there c.args.from
-    c.next_slot.result c.next_slot.ensures.next
-
--- what the list's own fronts keep is known now, and what the others do goes on being known
-pub invariant_of-self-2 : goal.invariant_of-self-2
-invariant_of-self-2 g c = record {
-  kept = keep_each_on c.args.self.now.fronts (c.args.which % 8) c.next_slot.new.fronts
-      (g.V.View.seen c.args.self.now.view.now) (g.V.View.seen c.next_slot.new.view) c.next_slot.ensures.next.viewed
-      c.args.self.now.kept c.next_slot.ensures.kept;
-}
+    (g.V.View.seen c.next_of_own.new.view) 0 0 0 0 c.args.which c.in-Some.term c.in-Some.ensures.there c.args.from
+    c.next_of_own.result c.next_of_own.ensures.next
