@@ -14,13 +14,13 @@ use std::simd::prelude::*;
 use worm_device::View;
 
 /// How many cells are read at once, at most.
-pub(crate) const ROW_CELLS: u32 = 256;
+pub(crate) const ROW_CELLS: u32 = 1_024;
 
 /// How many bytes of a document they hold, at most.
-pub const ROW_CONTENT: usize = 3_840;
+pub const ROW_CONTENT: usize = 15_360;
 
 /// How many bytes they have, which is room for the bytes of a document that they hold.
-pub const ROW_BYTES: usize = 4_096;
+pub const ROW_BYTES: usize = 16_384;
 
 /// The first byte of a content cell of fifteen bytes.
 const FULL_CELL: u8 = 31;
