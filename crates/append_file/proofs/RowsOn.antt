@@ -1,10 +1,12 @@
 -- How a row of cells goes on, cell by cell, and how a position goes on behind it.
-use Rattle.std.proofs.Common.{◌≡◌, ◌<◌, ◌≤◌, ◌+◌, ◌-◌, ◌*◌, ◌/◌, ◌⊎◌, min, ℕ, List, [], ◌++◌, length, take, drop, replicate, slice_index, Option, Some, None, Ok, Err, refl, sym, ap, ◌∙◌, ⊎_elim, subst, arith}
+use Rattle.std.proofs.Common.{◌≡◌, ◌<◌, ◌≤◌, ◌+◌, ◌-◌, ◌*◌, ◌/◌, ◌⊎◌, min, ℕ, List, [], ◌++◌, length, take, drop, replicate, slice_index, Option, Some, None, Ok, Err, refl, sym, ap, ◌∙◌, ⊎_elim, subst, arith, inl, inr}
 use Rattle.std.proofs.Math.ListN.{get_or-eq_default}
-use Rattle.std.proofs.Math.Seq.{drop-append_seam, take-append-add}
+use Rattle.std.proofs.Math.Seq.{drop-append_seam, get_or-append_right, take-append-add}
 use Rattle.std.proofs.lemmas.Bool.{cases_lt}
-use Rattle.std.proofs.lemmas.List.{append-nil, drop-drop, drop_all, get_or-drop, length-append, length-drop, length-take, length-take-le, take-append-le, take-take, take_all}
+use Rattle.std.proofs.lemmas.List.{append-nil, drop-drop, drop-take, drop_all, get_or-drop, get_or-take, length-append, length-drop, length-take, length-take-le, take-append-le, take-take, take_all}
 use Rattle.std.proofs.lemmas.Option.{same_Some}
+use Rattle.std.proofs.lemmas.Simd.{length-chunk, put_chunk_is}
+use Rattle.std.specs.Simd.Lanes.{chunk, put_chunk}
 use Rattle.std.proofs.lemmas.Slice.{drop-put_mid, take-put_mid}
 use Rattle.std.specs.Prelude.{IfSome, IsTrue}
 use Rattle.cell_types.specs.Bytes.{AreBytes, IsCell}
@@ -18,7 +20,7 @@ use Rattle.worm_device.specs.ReadBytes.{IsReadBetween, ViewReadsBytes, cell_byte
 use Rattle.worm_device.specs.Views.{ViewState, Viewed}
 use Rattle.append_file.specs.Pieces.{HoldsPiece, IsNoPiece, held_bytes}
 use Rattle.append_file.specs.Reading.{NextRowEnds, HasBroken, HasRead, IsFront, IsPosition, left_over, rest_given, row_given}
-use Rattle.append_file.specs.Rows.{GivesPiece, HasNoPiece, HoldsRow, PutsPiece, RowReadEnds}
+use Rattle.append_file.specs.Rows.{GivesPiece, HasNoPiece, HoldsRow, IsFull, MovesFull, PutsPiece, RowReadEnds}
 use Rattle.append_file.specs.declared.piece.ContentFault.{ContentFault}
 use Rattle.append_file.specs.declared.piece.ContentFault.TheVariants.{Broken, ReadFault}
 use Rattle.append_file.specs.declared.position.Position.{Position}
@@ -67,12 +69,12 @@ written_cell cell sixteen fits kind = record {
 }
 
 -- the bytes of whole cells, and behind them those of one more in the buffer
-pub buffer_more : (n more k : ℕ) (into piece : List ℕ) → n ≤ length into → length piece ≡ 15 → more ≤ 15
+pub buffer_more : (n more size k : ℕ) (into piece : List ℕ) → n ≤ length into → length piece ≡ size → more ≤ size
     → take (n + more) (put_mid n k into piece) ≡ take n into ++ take more piece
-buffer_more n more k into piece within fifteen few =
+buffer_more n more size k into piece within all few =
     let front : length (take n into) ≡ n = length-take-le n into within in
-    sym (take-take (n + more) (n + 15) (put_mid n k into piece) (omega (arith, few)))
-    ∙ ap (take (n + more)) (take-put_mid n k into piece (n + 15) (omega (arith, fifteen)) within)
+    sym (take-take (n + more) (n + size) (put_mid n k into piece) (omega (arith, few)))
+    ∙ ap (take (n + more)) (take-put_mid n k into piece (n + size) (omega (arith, all)) within)
     ∙ ap (λ (m : ℕ). take (m + more) (take n into ++ piece)) (sym front)
     ∙ take-append-add (take n into) piece more
 
@@ -111,11 +113,11 @@ row_none bytes place row = record {
 }
 
 -- bytes that are put before a cell leave it as it is
-pub put_before : (at part other : ℕ) (xs ys : List ℕ) → part ≡ 15 → length ys ≡ 15 → at + 15 ≤ 16 * other
+pub put_before : (at part size other : ℕ) (xs ys : List ℕ) → part ≡ size → length ys ≡ size → at + size ≤ 16 * other
     → at ≤ length xs → cell_bytes (put_mid at part xs ys) other ≡ cell_bytes xs other
-put_before at part other xs ys fifteen long before within =
-    ap (take 16) (drop-put_mid at part xs ys (16 * other) (omega (arith, fifteen, long)) within
-    (omega (arith, fifteen, long, before)))
+put_before at part size other xs ys all long before within =
+    ap (take 16) (drop-put_mid at part xs ys (16 * other) (omega (arith, all, long, before)) within
+    (omega (arith, all, long)))
 
 -- a cell gives the bytes that were found in it
 pub gives_held : (bytes place : ℕ) (cell room : List ℕ) (held : Content) → HoldsPiece bytes place (Some cell) held
@@ -130,23 +132,108 @@ gives_held bytes place cell room held holds fifteen copied =
       given = ap (take held.length) copied;
     }
 
--- a full cell gives what stands behind its first byte
-pub gives_full : (bytes place : ℕ) (cell room : List ℕ) → length cell ≡ 16 → AreBytes cell → slice_index cell 0 ≡ 31
-    → 15 ≤ bytes - 15 * place → room ≡ take 15 (drop 1 cell) → GivesPiece bytes place cell room 15
-gives_full bytes place cell room sixteen fits kind long copied =
-    let is : IsCell cell = written_cell cell sixteen fits kind in
-    let fifteen : length (drop 1 cell) ≡ 15 = omega (arith, length-drop 1 cell, sixteen) in
-    let all : take 15 (drop 1 cell) ≡ drop 1 cell = take_all 15 (drop 1 cell) (omega (arith, fifteen)) in
+-- sixteen lanes that are stored
+stored_lanes : (at : ℕ) (xs ys : List ℕ) → length ys ≡ 16 → at + 16 ≤ length xs
+    → put_chunk at xs ys ≡ put_mid at 16 xs ys
+stored_lanes at xs ys long within =
+    put_chunk_is at xs ys (omega (arith, long, within))
+    ∙ ap (λ (n : ℕ). take at xs ++ (ys ++ drop n (drop at xs))) long
+
+-- fifteen of the lanes that were loaded behind the first byte of a cell are the bytes that it holds
+loaded_bytes : (k : ℕ) (row : List ℕ) → take 15 (chunk (16 * k + 1) 16 row) ≡ drop 1 (cell_bytes row k)
+loaded_bytes k row =
+    take-take 15 16 (drop (16 * k + 1) row) (omega arith)
+    ∙ ap (take 15) (ap (λ (n : ℕ). drop n row) (omega arith) ∙ sym (drop-drop 1 (16 * k) row))
+    ∙ sym (drop-take 1 15 (drop (16 * k) row))
+
+-- the bytes of a full cell are moved by sixteen lanes
+pub moves_full : (k : ℕ) (row after : List ℕ) → 16 * k + 17 ≤ length row
+    → after ≡ put_chunk (15 * k) row (chunk (16 * k + 1) 16 row) → slice_index row (16 * k) ≡ 31
+    → MovesFull k row after
+moves_full k row after behind moved full =
+    let lanes = chunk (16 * k + 1) 16 row in
+    let long : length lanes ≡ 16 = length-chunk (16 * k + 1) 16 row (omega (arith, behind)) in
+    let same : after ≡ put_mid (15 * k) 16 row lanes =
+    moved ∙ stored_lanes (15 * k) row lanes long (omega (arith, behind)) in
     record {
-      piece = drop 1 cell;
-      is = record {
-        length_is = omega (arith, fifteen, long);
-        fits = record { each = λ i. rw (get_or-drop 1 cell i 0) (fits.each (1 + i)) };
-      };
-      held = full_cell cell (drop 1 cell) is (sym all) kind ∙ ap (λ (l : List ℕ). content_bytes l) all;
-      count = sym fifteen;
-      given = ap (take 15) (copied ∙ all) ∙ all;
+      full = get_or-take 16 (drop (16 * k) row) 0 0 (omega arith) ∙ get_or-drop (16 * k) row 0 0
+          ∙ ap (slice_index row) (omega arith) ∙ full;
+      put = ap (take (15 * k + 15)) same
+          ∙ buffer_more (15 * k) 15 16 16 row lanes (omega (arith, behind)) long (omega arith)
+          ∙ ap (λ (l : List ℕ). take (15 * k) row ++ l) (loaded_bytes k row);
+      others = λ other later. ap (λ (l : List ℕ). cell_bytes l other) same
+          ∙ put_before (15 * k) 16 16 other row lanes refl long (omega (arith, later)) (omega (arith, behind));
     }
+
+-- what they put stands in the row
+moved_stands : (k i : ℕ) (row after : List ℕ) → MovesFull k row after → 15 * k ≤ length row
+    → slice_index (take (15 * k + 15) after) (15 * k + i) ≡ slice_index (drop 1 (cell_bytes row k)) i
+moved_stands k i row after moves inside =
+    let front : length (take (15 * k) row) ≡ 15 * k = length-take-le (15 * k) row inside in
+    let behind : List ℕ = drop 1 (cell_bytes row k) in
+    ap (λ (l : List ℕ). slice_index l (15 * k + i)) moves.put
+    ∙ get_or-append_right (take (15 * k) row) behind (15 * k + i) 0 (omega (arith, front))
+    ∙ ap (slice_index behind) (omega (arith, front))
+
+-- so it is bytes
+moved_fit : (k : ℕ) (row after : List ℕ) → MovesFull k row after → AreBytes after → 15 * k ≤ length row
+    → AreBytes (drop 1 (cell_bytes row k))
+moved_fit k row after moves fits inside =
+    let behind : List ℕ = drop 1 (cell_bytes row k) in
+    let short : length behind ≤ 15 = omega (arith, length-drop 1 (cell_bytes row k), length-take 16 (drop (16 * k) row)) in
+    record {
+      each = λ i. elim (cases_lt i 15) [
+        | inl less ↦
+            let stands = moved_stands k i row after moves inside in
+            let same : slice_index (take (15 * k + 15) after) (15 * k + i) ≡ slice_index after (15 * k + i) =
+            get_or-take (15 * k + 15) after (15 * k + i) 0 (omega (arith, less)) in
+            omega (arith, stands, same, fits.each (15 * k + i))
+        | inr more ↦
+            let zero : slice_index behind i ≡ 0 = get_or-eq_default {A = ℕ} behind 0 {n = i} (omega (arith, more, short)) in
+            omega (arith, zero)
+      ];
+    }
+
+-- so they are put where those of the cells before it end
+pub puts_full : (bytes place k : ℕ) (row after : List ℕ) → MovesFull k row after → AreBytes after
+    → 16 * k + 16 ≤ length row → 15 * place + 15 ≤ bytes
+    → PutsPiece bytes place (cell_bytes row k) (15 * k) row after 15
+puts_full bytes place k row after moves fits inside long =
+    let cell : List ℕ = cell_bytes row k in
+    let behind : List ℕ = drop 1 cell in
+    let behind_fits : AreBytes behind = moved_fit k row after moves fits (omega (arith, inside)) in
+    let sixteen : length cell ≡ 16 = length-take-le 16 (drop (16 * k) row) (omega (arith, length-drop (16 * k) row, inside)) in
+    let cell_fits : AreBytes cell = record {
+      each = λ i. elim (cases_lt 0 i) [
+        | inl some ↦
+            let here : 1 + (i - 1) ≡ i = omega (arith, some) in
+            let same : slice_index behind (i - 1) ≡ slice_index cell i =
+            get_or-drop 1 cell (i - 1) 0 ∙ ap (slice_index cell) here in
+            omega (arith, same, behind_fits.each (i - 1))
+        | inr none ↦
+            let zero : i ≡ 0 = omega (arith, none) in
+            let first : slice_index cell i ≡ 31 = ap (slice_index cell) zero ∙ moves.full in
+            omega (arith, first)
+      ];
+    } in
+    let is : IsCell cell = written_cell cell sixteen cell_fits moves.full in
+    let fifteen : length behind ≡ 15 = omega (arith, length-drop 1 cell, sixteen) in
+    let all : take 15 behind ≡ behind = take_all 15 behind (omega (arith, fifteen)) in
+    record {
+      piece = behind;
+      is = record { length_is = omega (arith, fifteen, long); fits = behind_fits };
+      held = full_cell cell behind is (sym all) moves.full ∙ ap (λ (l : List ℕ). content_bytes l) all;
+      count = sym fifteen;
+      put = moves.put;
+    }
+
+-- a cell of a place that asks for fifteen bytes, and is not full
+not_full : (bytes place : ℕ) (cell : List ℕ) → (IsFull cell → ⊥) → 15 * place + 15 ≤ bytes
+    → IsNoPiece bytes place (Some cell)
+not_full bytes place cell other long piece is same =
+    let first : slice_index cell 0 ≡ 16 + length piece =
+    ap (λ (l : List ℕ). slice_index l 0) (same_Some cell (content_bytes piece) same) in
+    other (omega (arith, first, is.length_is, long))
 
 -- what a cell gives is put behind the bytes of whole cells
 puts_given : (bytes place at part n : ℕ) (cell was into room : List ℕ) → cell ≡ was
@@ -159,7 +246,7 @@ puts_given bytes place at part n cell was into room same gives within fifteen =
       is = gives.is;
       held = sym same ∙ gives.held;
       count = gives.count;
-      put = buffer_more at n part into room within fifteen few ∙ ap (λ (l : List ℕ). take at into ++ l) gives.given;
+      put = buffer_more at n 15 part into room within fifteen few ∙ ap (λ (l : List ℕ). take at into ++ l) gives.given;
     }
 
 -- where it gives them
@@ -202,6 +289,16 @@ row_more bytes place k n more into after row so_far below puts size others =
       behind = λ j from. others j (omega (arith, from)) ∙ so_far.behind j (omega (arith, from));
     }
 
+-- a full cell more
+pub row_more_full : (bytes place k : ℕ) (into after row : List ℕ) → RowSoFar bytes place k (15 * k) into row
+    → 15 * (place + k) + 15 ≤ bytes → AreBytes after → 16 * k + 16 ≤ length into → MovesFull k into after
+    → length after ≡ length into → RowSoFar bytes place (k + 1) (15 * (k + 1)) after row
+row_more_full bytes place k into after row so_far long fits inside moves size =
+    let more : RowSoFar bytes place (k + 1) (15 * k + 15) after row =
+    row_more bytes place k (15 * k) 15 into after row so_far (omega (arith, long))
+    (puts_full bytes (place + k) k into after moves fits inside long) size moves.others in
+    subst (λ (n : ℕ). RowSoFar bytes place (k + 1) n after row) (let e : 15 * k + 15 ≡ 15 * (k + 1) = omega arith in e) more
+
 -- a cell that is not whole was none before
 pub row_none_at : (bytes place k n count : ℕ) (into row : List ℕ) → RowSoFar bytes place k n into row → k < count
     → IsNoPiece bytes (place + k) (Some (cell_bytes into k)) → HasNoPiece bytes place count row
@@ -211,6 +308,12 @@ row_none_at bytes place k n count into row so_far less none = (
   subst (λ (c : List ℕ). IsNoPiece bytes (place + k) (Some c)) (so_far.behind k (omega arith)) none,
 )
 
+-- nor was one that is not full, and behind which another comes
+pub row_not_full : (bytes place k n count : ℕ) (into row : List ℕ) → RowSoFar bytes place k n into row → k < count
+    → 15 * (place + k) + 15 ≤ bytes → (IsFull (cell_bytes into k) → ⊥) → HasNoPiece bytes place count row
+row_not_full bytes place k n count into row so_far less long other =
+    row_none_at bytes place k n count into row so_far less (not_full bytes (place + k) (cell_bytes into k) other long)
+
 -- all of them
 pub row_whole : (bytes place k n count : ℕ) (into row : List ℕ) → RowSoFar bytes place k n into row → k ≡ count
     → HoldsRow bytes place count row (take n into)
@@ -219,6 +322,18 @@ row_whole bytes place k n count into row so_far all = record {
   fits = so_far.fits;
   each = λ j less. so_far.each j (omega (arith, less, all));
 }
+
+-- the full ones, and the last one behind them
+pub row_ended : (bytes place k last count more : ℕ) (into after row : List ℕ)
+    → RowSoFar bytes place k (15 * k) into row → k ≡ last → last + 1 ≡ count → 15 * (place + last) < bytes
+    → PutsPiece bytes (place + last) (cell_bytes into last) (15 * last) into after more → length after ≡ length into
+    → ((other : ℕ) → last < other → cell_bytes after other ≡ cell_bytes into other)
+    → HoldsRow bytes place count row (take (15 * last + more) after)
+row_ended bytes place k last count more into after row so_far here all below puts size others =
+    let full : RowSoFar bytes place last (15 * last) into row =
+    subst (λ (n : ℕ). RowSoFar bytes place n (15 * n) into row) here so_far in
+    row_whole bytes place (last + 1) (15 * last + more) count after row
+    (row_more bytes place last (15 * last) more into after row full below puts size others) all
 
 -- A row that was read through a view.
 module _ (start bytes place count : ℕ) (old new : ViewState) {room row : List ℕ}

@@ -1,6 +1,6 @@
 -- The cells of a document part, several at once. They are read one after another while somebody else may write: what
 -- was found written stands at the end, and what was found blank was so before.
-use Rattle.std.specs.Prelude.{◌≡◌, ◌<◌, ◌+◌, ◌-◌, ◌*◌, min, ℕ, List, ◌++◌, length, take, Some, Result, Ok, Err, IsTrue}
+use Rattle.std.specs.Prelude.{◌≡◌, ◌<◌, ◌+◌, ◌-◌, ◌*◌, min, ℕ, List, ◌++◌, length, drop, slice_index, take, Some, Result, Ok, Err, IsTrue}
 use Rattle.cell_types.specs.Bytes.{AreBytes}
 use Rattle.cell_types.specs.Contents.{content_bytes}
 use Rattle.volume_meaning.specs.Documents.{content_at}
@@ -34,6 +34,16 @@ pub record PutsPiece (bytes k : ℕ) (cell : List ℕ) (at : ℕ) (old new : Lis
   pub held : cell ≡ content_bytes piece
   pub count : n ≡ length piece
   pub put : take (at + n) new ≡ take at old ++ piece
+
+-- the first byte of a cell says that it holds fifteen
+abbrev pub IsFull : List ℕ → Type 0
+IsFull cell = slice_index cell 0 ≡ 31
+
+-- The bytes of cell k, which is full, were put behind those of the full cells before it. No cell behind it changed.
+pub record MovesFull (k : ℕ) (old new : List ℕ) : Type 0 where
+  pub full : IsFull (cell_bytes old k)
+  pub put : take (15 * k + 15) new ≡ take (15 * k) old ++ drop 1 (cell_bytes old k)
+  pub others : (other : ℕ) → k < other → cell_bytes new other ≡ cell_bytes old other
 
 -- some cell of a row of so many is no content cell of its place
 abbrev pub HasNoPiece : ℕ → ℕ → ℕ → List ℕ → Type 0

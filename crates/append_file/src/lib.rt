@@ -10,7 +10,7 @@
 //! `content_cells` makes the three cells of the bytes. A `Reader` gives the bytes again, one after another: it reads
 //! cell 600 when it is asked for b0, cell 601 for b15, cell 602 for b30, each once, and after b30 there is none.
 //! `next_byte` does the same over a `Position`, for a caller that reads several parts over one view. `next_row` gives
-//! more at once: what is left of a cell that was begun, or else the next 256 cells, which it reads in one call; here
+//! more at once: what is left of a cell that was begun, or else the next 1,024 cells, which it reads in one call; here
 //! all 31 bytes of the part, from its start on.
 //!
 //! No cell is trusted. A cell that is blank, that is no content cell, or that holds another number of bytes than its

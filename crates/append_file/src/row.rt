@@ -1,7 +1,7 @@
 //! Neighbouring cells of a document part, read as a row.
-ghost use Rattle.std.specs.Prelude.{◌≡◌, ◌<◌, ◌≤◌, ◌+◌, ◌*◌, ◌/◌, ℕ, IfNone, IfSome, Some, length, take};
+ghost use Rattle.std.specs.Prelude.{◌≡◌, ◌<◌, ◌≤◌, ◌+◌, ◌*◌, ◌/◌, ℕ, false, IfNone, IfSome, IsTrue, Some, length, take};
 ghost use Rattle.append_file.specs.Pieces.{IsNoPiece};
-ghost use Rattle.append_file.specs.Rows.{GivesPiece, HasNoPiece, HoldsRow, PutsPiece, RowReadEnds};
+ghost use Rattle.append_file.specs.Rows.{GivesPiece, HasNoPiece, HoldsRow, IsFull, MovesFull, PutsPiece, RowReadEnds};
 ghost use Rattle.append_file.specs.declared.row.TheConstants.{ROW_BYTES, ROW_CELLS};
 ghost use Rattle.volume_meaning.specs.Slots as slots;
 ghost use Rattle.worm_device.specs.ReadBytes.{cell_bytes};
@@ -10,16 +10,17 @@ ghost use Rattle.worm_device.specs.Views.{Viewed};
 use crate::CONTENT_BYTES;
 use crate::piece::{ContentFault, piece_in};
 use cell_types::Cell;
+use std::simd::prelude::*;
 use worm_device::View;
 
 /// How many cells are read at once, at most.
-pub(crate) const ROW_CELLS: u32 = 256;
+pub(crate) const ROW_CELLS: u32 = 1_024;
 
 /// How many bytes of a document they hold, at most.
-pub const ROW_CONTENT: usize = 3_840;
+pub const ROW_CONTENT: usize = 15_360;
 
 /// How many bytes they have, which is room for the bytes of a document that they hold.
-pub const ROW_BYTES: usize = 4_096;
+pub const ROW_BYTES: usize = 16_384;
 
 /// The first byte of a content cell of fifteen bytes.
 const FULL_CELL: u8 = 31;
@@ -34,6 +35,7 @@ pub(crate) fn read_cells<V: View>(
     count: u32,
     into: &mut [u8; ROW_BYTES],
 ) -> Result<usize, ContentFault>
+    requires some { 1 ≤ count }
     requires few { count ≤ ROW_CELLS }
     requires places { place + count ≤ slots.cells_for bytes }
     requires inside { start + slots.cells_for bytes ≤ (V.seen view.old).cells }
@@ -54,28 +56,50 @@ pub(crate) fn read_cells<V: View>(
 /// Moves the bytes that a row of cells holds to its front, one behind another, and answers how many, if each cell is
 /// whole. The first cell has this place, in a part of so many bytes.
 fn gather(bytes: u32, place: u32, row: &mut [u8]) -> Option<usize>
+    requires some { 1 ≤ length row.old / 16 }
     requires few { length row.old ≤ ROW_BYTES }
     requires places { place + length row.old / 16 ≤ slots.cells_for bytes }
     ensures some { IfSome result (λ n. HoldsRow bytes place (length row.old / 16) row.old (take n row.new)) }
     ensures count { IfSome result (λ n. (length (take n row.new) ≡ n) × (n ≤ length row.new)) }
     ensures none { IfNone result (HasNoPiece bytes place (length row.old / 16) row.old) }
 {
-    let mut length = 0;
-    for k in 0..row.len() / 16 {
-        length += move_piece(bytes, place, k, length, row)?;
+    let last = row.len() / 16 - 1;
+    // A cell behind which the part has another one is full.
+    for k in 0..last {
+        if !move_full(k, row) {
+            return None;
+        }
     }
-    Some(length)
+    let more = move_piece(bytes, place, last, row)?;
+    Some(15 * last + more)
 }
 
-/// Moves what cell k of a row holds to this byte of the row and those behind it, and answers how many bytes it is, if the
-/// cell is whole. No cell behind it changes.
-fn move_piece(bytes: u32, place: u32, k: usize, at: usize, row: &mut [u8]) -> Option<usize>
+/// Moves the bytes of cell k of a row to their place among those that the row holds, if the cell is full, and says whether
+/// it is. Another cell comes behind it, and none of those changes.
+fn move_full(k: usize, row: &mut [u8]) -> bool
+    requires behind { 16 * k + 17 ≤ length row.old }
+    requires few { length row.old ≤ ROW_BYTES }
+    ensures size { length row.new ≡ length row.old }
+    ensures moved { IsTrue result → MovesFull k row.old row.new }
+    ensures other { result ≡ false → IsFull (cell_bytes row.old k) → ⊥ }
+{
+    if row[16 * k] != FULL_CELL {
+        return false;
+    }
+    // All sixteen lanes are moved. The last one is the first byte of the next cell, and the bytes of that cell go over it.
+    let held = u8x16::from_slice(&row[16 * k + 1..]);
+    held.copy_to_slice(&mut row[15 * k..]);
+    true
+}
+
+/// Moves what cell k of a row holds to its place among the bytes that the row holds, and answers how many bytes it is, if
+/// the cell is whole.
+fn move_piece(bytes: u32, place: u32, k: usize, row: &mut [u8]) -> Option<usize>
     requires inside { 16 * k + 16 ≤ length row.old }
     requires few { length row.old ≤ ROW_BYTES }
-    requires before { at ≤ 15 * k }
     requires place { 15 * (place + k) < bytes }
     ensures size { length row.new ≡ length row.old }
-    ensures some { IfSome result (PutsPiece bytes (place + k) (cell_bytes row.old k) at row.old row.new) }
+    ensures some { IfSome result (PutsPiece bytes (place + k) (cell_bytes row.old k) (15 * k) row.old row.new) }
     ensures others { IfSome result (λ n. (other : ℕ) → k < other
         → cell_bytes row.new other ≡ cell_bytes row.old other) }
     ensures none { IfNone result (IsNoPiece bytes (place + k) (Some (cell_bytes row.old k))) }
@@ -86,7 +110,7 @@ fn move_piece(bytes: u32, place: u32, k: usize, at: usize, row: &mut [u8]) -> Op
         &cell,
         bytes,
         place + k as u32,
-        &mut row[at..at + CONTENT_BYTES as usize],
+        &mut row[15 * k..15 * k + CONTENT_BYTES as usize],
     )
 }
 
@@ -98,11 +122,6 @@ fn give_piece(cell: &[u8; 16], bytes: u32, place: u32, room: &mut [u8]) -> Optio
     ensures some { IfSome result (GivesPiece bytes place cell.now room.new) }
     ensures none { IfNone result (IsNoPiece bytes place (Some cell.now)) }
 {
-    // Nearly all cells of a part are full, and there is nothing more to check in them.
-    if cell[0] == FULL_CELL && bytes - CONTENT_BYTES * place >= CONTENT_BYTES {
-        room.copy_from_slice(&cell[1..]);
-        return Some(CONTENT_BYTES as usize);
-    }
     let held = piece_in(Cell::from_bytes(*cell)?, bytes, place)?;
     room.copy_from_slice(&held.bytes);
     Some(usize::from(held.length))

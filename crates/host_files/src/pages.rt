@@ -22,6 +22,9 @@ use worm_device::Failed;
 /// How many pages are held.
 const PAGES: usize = 16;
 
+/// How many hints are kept of where a page is held.
+const HINTS: usize = 64;
+
 /// A page, or room for one.
 #[derive(Clone, Copy)]
 pub(crate) struct Page {
@@ -59,9 +62,8 @@ impl Page {
 pub struct Pages {
     pages: Vec<Page>,
     uses: u64,
-    /// Where the page is that was used last.
-    latest: usize,
-    ghost inside: { latest < 16 },
+    /// Where a page may be held, by the last bits of its number. Whoever takes a hint looks whether it is.
+    hints: [u8; HINTS],
     ghost sixteen: { vec_len pages ≡ 16 },
     ghost apart: { ArePagesApart pages.items },
 }
@@ -83,7 +85,7 @@ impl Pages {
         Ok(Pages {
             pages,
             uses: 0,
-            latest: 0,
+            hints: [0; HINTS],
         })
     }
 
@@ -98,13 +100,24 @@ impl Pages {
         }
     }
 
+    /// Where the page is held, if there is a hint of it.
+    fn hinted(&self, number: u32) -> Option<usize>
+        ensures { IfSome result (λ frame. IsOn self.now.pages.items frame number) }
+    {
+        let frame = usize::from(self.hints[number as usize % HINTS]) % PAGES;
+        if self.pages[frame].number == Some(number) {
+            return Some(frame);
+        }
+        None
+    }
+
     /// Where the page is held.
     fn find(&self, number: u32) -> Option<usize>
         ensures found { IfSome result (λ frame. IsOn self.now.pages.items frame number) }
         ensures none { IsNone result → IsNowhere self.now.pages.items number }
     {
-        if self.pages[self.latest].number == Some(number) {
-            return Some(self.latest);
+        if let Some(frame) = self.hinted(number) {
+            return Some(frame);
         }
         for frame in 0..PAGES {
             if self.pages[frame].number == Some(number) {
@@ -142,14 +155,14 @@ impl Pages {
     }
 
     /// The page that is held here is used now.
-    fn touch(&mut self, frame: usize)
+    fn touch(&mut self, frame: usize, number: u32)
         requires { frame < 16 }
-        ensures on { (number : ℕ) → IsOn self.old.pages.items frame number → IsOn self.new.pages.items frame number }
+        ensures on { IsOn self.old.pages.items frame number → IsOn self.new.pages.items frame number }
         ensures holds { (cells : ℕ) (bytes : List ℕ) → PagesHold cells bytes self.old.pages.items
             → PagesHold cells bytes self.new.pages.items }
     {
         self.uses = self.uses.saturating_add(1);
-        self.latest = frame;
+        self.hints[number as usize % HINTS] = frame as u8;
         let page = &mut self.pages[frame];
         page.used = self.uses;
     }
@@ -163,11 +176,11 @@ impl Pages {
         ensures holds { HoldOn cells (F.state file.old).told self.old.pages.items self.new.pages.items }
     {
         if let Some(frame) = self.find(number) {
-            self.touch(frame);
+            self.touch(frame, number);
             return Ok(frame);
         }
         let frame = self.fill(file, cells, number)?;
-        self.touch(frame);
+        self.touch(frame, number);
         Ok(frame)
     }
 
@@ -217,7 +230,8 @@ impl Pages {
         Ok(())
     }
 
-    /// Copies the bytes of neighbouring cells, where all of them lie on one page and it is held. Says whether it did.
+    /// Copies the bytes of neighbouring cells, where all of them lie on one page and a hint tells where it is held. Says
+    /// whether it did.
     pub(crate) fn copy_held(&self, at: u32, bytes: &mut [u8]) -> bool
         requires whole { length bytes.old % 16 ≡ 0 }
         ensures size { length bytes.new ≡ length bytes.old }
@@ -227,7 +241,7 @@ impl Pages {
         if place + bytes.len() / 16 > PAGE_CELLS as usize {
             return false;
         }
-        let Some(frame) = self.find(at / PAGE_CELLS) else {
+        let Some(frame) = self.hinted(at / PAGE_CELLS) else {
             return false;
         };
         let page = &self.pages[frame];

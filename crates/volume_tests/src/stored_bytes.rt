@@ -190,7 +190,7 @@ fn a_reader_ends_at_a_failed_read(rt: HostRuntime) -> Result<(), Fail> {
     Ok(())
 }
 
-/// A row has 256 cells at most, and so each of these parts is one.
+/// A row has 1,024 cells at most, and so each of these parts is one.
 #[test]
 fn parts_are_read_by_rows(rt: HostRuntime) -> Result<(), Fail> {
     for (bytes, want) in [

@@ -13,7 +13,8 @@ use Rattle.std.specs.List.{list_all, prefix_len, range_with_len}
 use Rattle.std.specs.Prelude.{slice_index}
 use Rattle.std.specs.Simd.Lanes.{chunk, zip2}
 use Rattle.volume_meaning.specs.Words.{lowered}
-use Rattle.word_reader.specs.RowWords.{StandsAt}
+use Rattle.word_reader.specs.RowWords.{IsFrontOf, StandsAt, StandsAtNone}
+use Rattle.word_reader.specs.declared.row_words.TermFront.{TermFront}
 use Rattle.word_reader.proofs.Reading.{bool_cases, passed}
 use Rattle.word_reader.proofs.Seeking.{true_false}
 
@@ -107,22 +108,38 @@ not_at row term at behind n inside none k less is =
     (subst (λ (p : ℕ). lowered (slice_index row p) ≡ slice_index term 0) one (is.spells 0 (omega (arith, is.some))).same)
     (subst (λ (p : ℕ). lowered (slice_index row p) ≡ slice_index term behind) other (is.spells behind inside).same)
 
--- a term that stands at no place before one, and at none of so many from it on
-pub none_to : (row term : List ℕ) (at count : ℕ) → ((place : ℕ) → place < at → StandsAt row place term → ⊥)
-    → ((k : ℕ) → k < count → StandsAt row (at + k) term → ⊥) → (place : ℕ) → place < at + count
-    → StandsAt row place term → ⊥
-none_to row term at count before behind place less is = elim (cases_lt place at) [
-  | inl earlier ↦ before place earlier is
+-- so one with this front does not
+pub not_front : (row term : List ℕ) (at n : ℕ) (front : TermFront) → IsFrontOf term front
+    → ((k : ℕ) → k < n → lowered (slice_index row (at + k)) ≡ front.first
+    → lowered (slice_index row (at + front.behind + k)) ≡ front.second → ⊥)
+    → (k : ℕ) → k < n → StandsAt row (at + k) term → ⊥
+not_front row term at n front is none =
+    not_at row term at front.behind n is.inside
+    (λ k less one other. none k less (one ∙ is.first) (other ∙ is.second))
+
+-- a term that stands at no place up to one, and at none of so many from it on
+pub none_to : (row term : List ℕ) (from at count : ℕ) → StandsAtNone row from at term
+    → ((k : ℕ) → k < count → StandsAt row (at + k) term → ⊥) → StandsAtNone row from (at + count) term
+none_to row term from at count before behind place low less is = elim (cases_lt place at) [
+  | inl earlier ↦ before place low earlier is
   | inr later ↦
       let back : place ≡ at + (place - at) = omega (arith, later) in
       behind (place - at) (omega (arith, less, later)) (subst (λ (p : ℕ). StandsAt row p term) back is)
 ]
 
+-- at none up to one, and at none from there up to another
+pub none_on : (row term : List ℕ) (from at to : ℕ) → StandsAtNone row from at term → StandsAtNone row at to term
+    → StandsAtNone row from to term
+none_on row term from at to before behind place low less is = elim (cases_lt place at) [
+  | inl earlier ↦ before place low earlier is
+  | inr later ↦ behind place later less is
+]
+
 -- and not at the next
-pub none_at : (row term : List ℕ) (at : ℕ) → ((place : ℕ) → place < at → StandsAt row place term → ⊥)
-    → (StandsAt row at term → ⊥) → (place : ℕ) → place < at + 1 → StandsAt row place term → ⊥
-none_at row term at before not place less is = elim (cases_lt place at) [
-  | inl earlier ↦ before place earlier is
+pub none_at : (row term : List ℕ) (from at : ℕ) → StandsAtNone row from at term → (StandsAt row at term → ⊥)
+    → StandsAtNone row from (at + 1) term
+none_at row term from at before not place low less is = elim (cases_lt place at) [
+  | inl earlier ↦ before place low earlier is
   | inr later ↦
       let same : place ≡ at = omega (arith, later, less) in
       not (subst (λ (p : ℕ). StandsAt row p term) same is)

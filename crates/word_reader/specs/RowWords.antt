@@ -4,6 +4,7 @@
 --     0 1 2 3 4 5 6 7 8 9       `com` stands at 6; not at 0, where a longer word begins
 use Rattle.std.specs.Prelude.{◌≡◌, ◌≤◌, ◌<◌, ◌+◌, ◌&&◌, ◌||◌, nat_eq, if◌then◌else◌, ℕ, zero, suc, Bool, true, false, List, [], ◌∷◌, ◌++◌, length, slice_index}
 use Rattle.volume_meaning.specs.Words.{is_word_byte, lowered, ended}
+use Rattle.word_reader.specs.declared.row_words.TermFront.{TermFront}
 
 -- the run that has not ended after these bytes, behind a run that has begun
 abbrev pub run_after : List ℕ → List ℕ → List ℕ
@@ -43,6 +44,13 @@ pub record ReadsAs (byte small : ℕ) : Type 0 where
   pub of_word : is_word_byte byte ≡ true
   pub same : lowered byte ≡ small
 
+-- these are two bytes of the term, the first one and the next, or the only one twice
+pub record IsFrontOf (term : List ℕ) (front : TermFront) : Type 0 where
+  pub near : front.behind ≤ 1
+  pub inside : front.behind < length term
+  pub first : slice_index term 0 ≡ front.first
+  pub second : slice_index term front.behind ≡ front.second
+
 -- the bytes of a row from this place on spell these
 abbrev pub SpellsAt : List ℕ → ℕ → List ℕ → Type 0
 SpellsAt row at run = (k : ℕ) → k < length run → ReadsAs (slice_index row (at + k)) (slice_index run k)
@@ -54,3 +62,7 @@ pub record StandsAt (row : List ℕ) (at : ℕ) (term : List ℕ) : Type 0 where
   pub apart : is_behind row at ≡ false
   pub spells : SpellsAt row at term
   pub ends : is_word_byte (slice_index row (at + length term)) ≡ false
+
+-- the term stands at no place from one up to another
+abbrev pub StandsAtNone : List ℕ → ℕ → ℕ → List ℕ → Type 0
+StandsAtNone row from to term = (place : ℕ) → from ≤ place → place < to → StandsAt row place term → ⊥

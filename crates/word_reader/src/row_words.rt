@@ -1,8 +1,7 @@
 //! Whether a term is one of the words that end within a row.
-ghost use Rattle.std.specs.Prelude.{◌≡◌, ◌<◌, ◌≤◌, ◌+◌, ◌↔◌, [], ℕ, IsTrue, length, take};
-ghost use Rattle.word_reader.specs.RowWords.{SpellsAt, StandsAt, is_behind, run_after};
+ghost use Rattle.std.specs.Prelude.{◌≡◌, ◌<◌, ◌≤◌, ◌+◌, ◌↔◌, [], ℕ, List, IsTrue, length, take};
+ghost use Rattle.word_reader.specs.RowWords.{IsFrontOf, SpellsAt, StandsAt, StandsAtNone, is_behind, run_after};
 ghost use Rattle.word_reader.specs.RowWords as words;
-ghost use Rattle.word_reader.specs.declared.lanes.TheConstants.{LANES};
 
 use crate::lanes::{LANES, places_before};
 use crate::reader::{is_of_word, lower};
@@ -48,26 +47,54 @@ fn stands_at(row: &[u8], at: usize, term: &[u8]) -> bool
     requires low { at ≤ length row.now }
     ensures { IsTrue result ↔ StandsAt row.now at term.now }
 {
-    if row.len() - at <= term.len() || is_behind_word(row, at) || is_of_word(row[at + term.len()]) {
+    if row.len() - at <= term.len() || lower(row[at]) != term[0] {
+        return false;
+    }
+    if is_behind_word(row, at) || is_of_word(row[at + term.len()]) {
         return false;
     }
     spells_at(row, at, term)
 }
 
-/// How many places from this one on are passed at once, sixteen at most: the term stands at none of them.
-fn passed_at_once(row: &[u8], at: usize, term: &[u8]) -> usize
-    requires some { 1 ≤ length term.now }
-    requires low { at ≤ length row.now }
-    ensures low { at + result ≤ length row.now }
-    ensures none { (k : ℕ) → k < result → StandsAt row.now (at + k) term.now → ⊥ }
+/// Two bytes of a term: the first one, and another one so many bytes behind it.
+#[derive(Clone, Copy)]
+struct TermFront {
+    first: u8,
+    behind: usize,
+    second: u8,
+}
+
+/// The first two bytes of a term, or the only one twice.
+fn front_of(term: &[u8]) -> TermFront
+    requires { 1 ≤ length term.now }
+    ensures { IsFrontOf term.now result }
 {
-    if row.len() - at <= LANES {
-        return 0;
+    let behind = usize::from(term.len() > 1);
+    TermFront {
+        first: term[0],
+        behind,
+        second: term[behind],
     }
-    if term.len() == 1 {
-        return places_before(row, at, term[0], 0, term[0]);
+}
+
+/// The first place from this one on at which a term with this front may stand. The last sixteen places of a row are not
+/// passed.
+fn next_place(row: &[u8], from: usize, front: TermFront) -> usize
+    requires low { from ≤ length row.now }
+    requires near { front.behind ≤ 1 }
+    ensures low { result ≤ length row.now }
+    ensures forward { from ≤ result }
+    ensures none { (term : List ℕ) → IsFrontOf term front → StandsAtNone row.now from result term }
+{
+    let mut at = from;
+    while row.len() - at > LANES {
+        let passed = places_before(row, at, front.first, front.behind, front.second);
+        at += passed;
+        if passed < LANES {
+            return at;
+        }
     }
-    places_before(row, at, term[0], 1, term[1])
+    at
 }
 
 /// Whether the term is one of the words that end within the row.
@@ -77,16 +104,15 @@ pub(crate) fn has_word(row: &[u8], term: &[u8]) -> bool
     if term.is_empty() {
         return false;
     }
-    let mut at = 0;
-    while at < row.len() {
-        let passed = passed_at_once(row, at, term);
-        at += passed;
-        if passed < LANES {
-            if stands_at(row, at, term) {
-                return true;
-            }
-            at += 1;
+    // Taken once, so that nothing of the term is read where places are passed.
+    let front = front_of(term);
+    let mut from = 0;
+    while from < row.len() {
+        let at = next_place(row, from, front);
+        if stands_at(row, at, term) {
+            return true;
         }
+        from = at + 1;
     }
     false
 }

@@ -11,17 +11,17 @@ returns-clause-some c =
     let sixteen : 16 * c.args.k + 16 - 16 * c.args.k ≡ 16 = omega arith in
     let same : c.copy_from_slice.new.self ≡ cell_bytes c.args.row.now c.args.k = c.copy_from_slice.ensures.after
     ∙ ap (λ (n : ℕ). take n (drop (16 * c.args.k) c.args.row.now)) sixteen in
-    puts_some c.args.bytes (c.args.place + c.args.k) c.args.at (c.args.at + 15 - c.args.at)
+    puts_some c.args.bytes (c.args.place + c.args.k) (15 * c.args.k) (15 * c.args.k + 15 - 15 * c.args.k)
     c.copy_from_slice.new.self (cell_bytes c.args.row.now c.args.k) c.args.row.now c.give_piece.new.room
-    c.give_piece.result same c.give_piece.ensures.some (omega (arith, c.requires.before, c.requires.inside))
+    c.give_piece.result same c.give_piece.ensures.some (omega (arith, c.requires.inside))
     c.give_piece.ensures.size
 
 pub returns-clause-others : goal.returns-clause-others
 returns-clause-others c = some_any _ c.give_piece.result
     (λ (other : ℕ) behind.
-    put_before c.args.at (c.args.at + 15 - c.args.at) other c.args.row.now c.give_piece.new.room (omega arith)
-    c.give_piece.ensures.size (omega (arith, c.requires.before, behind))
-    (omega (arith, c.requires.before, c.requires.inside)))
+    put_before (15 * c.args.k) (15 * c.args.k + 15 - 15 * c.args.k) 15 other c.args.row.now c.give_piece.new.room (omega arith)
+    c.give_piece.ensures.size (omega (arith, behind))
+    (omega (arith, c.requires.inside)))
 
 pub returns-clause-none : goal.returns-clause-none
 returns-clause-none c =

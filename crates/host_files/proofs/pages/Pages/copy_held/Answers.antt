@@ -9,7 +9,7 @@ use Rattle.host_files.proofs.pages.Pages.copy_held.Goals as goal
 
 pub returns-clause-held : goal.returns-clause-held
 returns-clause-held c did cells told hold inside place less =
-    let on = c.in-Some.ensures.found in
+    let on = c.in-Some.ensures in
     let page = c.index-page.result.now in
     let first = c.args.at % 256 in
     let copied = c.copy_from_slice.new.self in

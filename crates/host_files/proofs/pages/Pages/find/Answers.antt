@@ -12,9 +12,9 @@ loop-frame-preserved c frame below on =
     (λ here.
     let same : frame ≡ c.loop-frame.frame = omega arith in
     let found = subst (λ n. IsOn c.args.self.now.pages.items n c.args.number) same on in
-    let number : c.index-in-loop-frame.result.now.number ≡ Some c.args.number =
-    ap (λ (p : Page). p.number) (c.index-in-loop-frame.ensures ∙ get_or_from_slice_get c.args.self.now.pages.items
-    c.loop-frame.frame found.0 c.index-in-loop-frame.result.now found.1) ∙ found.2
+    let number : c.index.result.now.number ≡ Some c.args.number =
+    ap (λ (p : Page). p.number) (c.index.ensures ∙ get_or_from_slice_get c.args.self.now.pages.items
+    c.loop-frame.frame found.0 c.index.result.now found.1) ∙ found.2
     in search (rules, tests))
     (cases_lt frame c.loop-frame.frame)
 

@@ -11,10 +11,10 @@ invariant_of-self-clause-apart c =
     (c.index_mut-page.result.now, read_is pages.items _ _ (omega arith) c.index_mut-page.ensures.value, is))
 
 pub returns-clause-on : goal.returns-clause-on
-returns-clause-on c number on =
+returns-clause-on c on =
     let page = c.index_mut-page.result.now in
     let new : Page = record page { used = c.saturating_add-self.result } in
-    on_same c.args.self.now.pages.items c.args.frame page new number
+    on_same c.args.self.now.pages.items c.args.frame page new c.args.number
     (read_is c.args.self.now.pages.items _ _ (omega arith) c.index_mut-page.ensures.value) on refl
 
 pub returns-clause-holds : goal.returns-clause-holds
