@@ -16,7 +16,8 @@ pub trait Judge {
     fn judge(alloc: Global, text: &str) -> Result<Tally, AllocError>;
 }
 
-/// Judges the rows of each file that an argument names, and prints what came of them. A row that does not agree is an error.
+/// Judges the rows of each file that an argument names, and prints what came of them. A row that does not agree is an
+/// error.
 pub fn judge_files<J: Judge>(rt: &(impl Env + Files + Print + AllocGlobal)) -> io::Result<()> {
     let mut all = env::args(rt)?;
     let _ = all.next();
