@@ -51,18 +51,22 @@ module _ (old new : Ports) where
   -- where nothing keeps it from being done, it is, or ends for the one cause that is left
   pub completes : IsDevice old.device → IsDevice new.device → (request : Request) (result : Result Unit Refusal)
       → Does request old new result → IsUnhindered request old new → IsAnswered request result
-  completes device device_new (ToFormat slots lists version) result does free = format_completes _ old new free result does
+  completes device device_new (ToFormat slots lists version) result does free =
+      format_completes _ old new free result does
   completes device device_new (ToIngest id stamp) result does free =
       ingest_completes id stamp free.0 free.1 free.2 old new free.3 device device_new result does
-  completes device device_new (ToFind asked) result does free = find_completes asked free.0 old new free.1 device device_new
+  completes device device_new (ToFind asked) result does free =
+      find_completes asked free.0 old new free.1 device device_new
       result does
   completes device device_new (ToLookUp id) result does free = look_up_completes id free.0 old new free.1 device
       device_new result does
   completes device device_new ToRecover result does free =
       recover_completes free.0 old new free.1 device result does.answer does.settles does.tells
-  completes device device_new ToAudit result does free = audit_completes free.0 old new free.1 device device_new result does
+  completes device device_new ToAudit result does free =
+      audit_completes free.0 old new free.1 device device_new result does
   completes device device_new ToReplay result does free = replay_completes free.0 free.1 old new free.2 result does
-  completes device device_new (ToExercise documents) result does free = exercise_completes documents old new result does free
+  completes device device_new (ToExercise documents) result does free =
+      exercise_completes documents old new result does free
   completes device device_new ToCheck result does free = check_completes free.0 free.1 old new free.2 device result does
   completes device device_new (ToMakeReceipt id) result does free = receipt_completes id free.0 old new free.1 device
       device_new result does

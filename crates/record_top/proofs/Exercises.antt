@@ -1,5 +1,5 @@
--- How an exercise ends: the device that was handed in is untouched, never with `Usage` or tampering, and where no call of
--- the sink fails with no refusal but want of memory and a full path.
+-- How an exercise ends: the device that was handed in is untouched, never with `Usage` or tampering, and where no call
+-- of the sink fails with no refusal but want of memory and a full path.
 use Rattle.std.proofs.Common.{◌≡◌, ℕ, Result, Err, refl, subst, sym}
 use Rattle.cell_types.specs.declared.refusal.Evidence.{Evidence}
 use Rattle.cell_types.specs.declared.refusal.Refusal.{Refusal}
@@ -37,13 +37,16 @@ ends_other x no_memory no_sink no_event n from to old new (untold replies world 
 -- it never ends with `Usage`
 pub exercise_is_used : (n : ℕ) (old new : Ports) → DoesExercise n old new (Err refusals.Usage) → ⊥
 exercise_is_used n old new does =
-    ends_other refusals.Usage (λ s. absurd cc) (λ s. absurd cc) (λ of. of) n (exercise_device n) does.left old.sink new.sink
+    ends_other refusals.Usage (λ s. absurd cc) (λ s. absurd cc) (λ of. of) n
+    (exercise_device n) does.left old.sink new.sink
     does.ends
 
 -- and names no tampering
-pub exercise_names_none : (n : ℕ) (old new : Ports) (e : Evidence) → DoesExercise n old new (Err (refusals.Tampered e)) → ⊥
+pub exercise_names_none : (n : ℕ) (old new : Ports) (e : Evidence) → DoesExercise n old new (Err (refusals.Tampered e))
+    → ⊥
 exercise_names_none n old new e does =
-    ends_other (refusals.Tampered e) (λ s. absurd cc) (λ s. absurd cc) (λ of. of) n (exercise_device n) does.left old.sink
+    ends_other (refusals.Tampered e) (λ s. absurd cc) (λ s. absurd cc) (λ of. of) n
+    (exercise_device n) does.left old.sink
     new.sink does.ends
 
 ends_complete : (n : ℕ) (from to : Memory) (old new : SinkState) (result : Result Unit Refusal)
@@ -51,7 +54,8 @@ ends_complete : (n : ℕ) (from to : Memory) (old new : SinkState) (result : Res
 ends_complete n from to old new result still (unmade is same) = subst IsOkOrOfExercise (sym is) tt
 ends_complete n from to old new result still (refused replies refusal world first of untroubled is same) =
     subst IsOkOrOfExercise (sym is) of
-ends_complete n from to old new result still (told replies world first leaves is gets) = subst IsOkOrOfExercise (sym is) tt
+ends_complete n from to old new result still (told replies world first leaves is gets) =
+    subst IsOkOrOfExercise (sym is) tt
 ends_complete n from to old new result still (untold replies world first leaves is part) =
     absurd (rose_or_still _ _ part.faults still)
 

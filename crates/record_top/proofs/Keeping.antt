@@ -73,7 +73,8 @@ keeps_all : (before cells reads faults parts : ℕ) (bytes : List ℕ) (told : T
     → Extends (image_of_bytes before bytes) (image_of_bytes cells told.now.sure) → KeepsAllOfFile cells bytes told
 keeps_all before cells reads faults parts bytes told same seen extends n id body stands =
     kept_told cells reads faults parts told seen n id body
-    (stands_on (subst (λ (k : ℕ). Extends (image_of_bytes k bytes) (image_of_bytes cells told.now.sure)) same extends) stands)
+    (stands_on (subst (λ (k : ℕ). Extends (image_of_bytes k bytes) (image_of_bytes cells told.now.sure)) same extends)
+    stands)
 
 -- a device that tells goes on telling
 one_tells : true ≡ false → ⊥
@@ -105,7 +106,8 @@ stored b r f p cells reads faults parts None (Some u) id stamp body slot sink si
     one_tells called.tells
 stored b r f p cells reads faults parts (Some t) None id stamp body slot sink sink' result called seen ingested named =
     one_tells (sym called.tells)
-stored b r f p cells reads faults parts (Some t) (Some u) id stamp body slot sink sink' result called seen ingested named =
+stored b r f p cells reads faults parts (Some t) (Some u) id stamp body slot sink sink' result called
+    seen ingested named =
     let is = ingested refl in (
       record {
         slot = slot;
@@ -113,7 +115,8 @@ stored b r f p cells reads faults parts (Some t) (Some u) id stamp body slot sin
         stamped = λ seconds given. stamp_told cells reads faults parts u seen slot seconds
             (subst (λ (s : Option ℕ). IsStampOf is.layout (image_of_bytes cells u.now.sure) slot s) given is.stamped).1;
         led = λ documents before. led_told cells reads faults parts u seen
-            (is.keeps documents (subst (λ (k : ℕ). Kept k (image_of_bytes k t.now.bytes) documents) called.cells before));
+            (is.keeps documents (subst (λ (k : ℕ). Kept k (image_of_bytes k t.now.bytes) documents)
+            called.cells before));
         named = named;
       },
       keeps_all b cells reads faults parts t.now.bytes u (sym called.cells) seen is.synced,
@@ -138,7 +141,8 @@ module _ (b r f p cells reads faults parts : ℕ) (told told' : Option Told) (id
       → Tells acknowledgement answer (ports_of device source sink) (ports_of later source' sink') result
       → WasStored result
       → WhereTold told told' (λ before after.
-      IsDocumentStored cells id stamp given before after sink sink' result × KeepsAllOfFile cells before.now.bytes after)
+      IsDocumentStored cells id stamp given before after sink sink' result
+      × KeepsAllOfFile cells before.now.bytes after)
   told_of (Ok u) given (Ok slot) ingests tells has =
       stored b r f p cells reads faults parts told told' id stamp given slot sink sink' (Ok u) ingests.called seen
       ingests.ends tells
@@ -147,7 +151,8 @@ module _ (b r f p cells reads faults parts : ℕ) (told told' : Option Told) (id
       stored b r f p cells reads faults parts told told' id stamp given slot sink sink' (Err SinkFault) ingests.called
       seen ingests.ends tt
   told_of (Err SinkFault) given (Err refused) ingests tells has =
-      absurd (subst (λ (refusal : Refusal). IngestEnds id stamp given device later (Err refusal)) (sym tells.0) ingests.ends)
+      absurd (subst (λ (refusal : Refusal). IngestEnds id stamp given device later (Err refusal))
+      (sym tells.0) ingests.ends)
   told_of (Err refusal) given answer ingests tells has = absurd has
 
   -- where `ingest` has stored its document

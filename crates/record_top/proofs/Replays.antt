@@ -1,5 +1,5 @@
--- How a replay ends: the device that was handed in is untouched, never with `Usage`, and where nothing hinders it with no
--- refusal but want of memory.
+-- How a replay ends: the device that was handed in is untouched, never with `Usage`, and where nothing hinders it with
+-- no refusal but want of memory.
 use Rattle.std.proofs.Common.{◌≡◌, ℕ, List, Result, Ok, Err, refl, subst, sym, ◌∙◌}
 use Rattle.cell_types.specs.declared.refusal.Evidence.{Evidence}
 use Rattle.cell_types.specs.declared.refusal.Refusal.{Refusal}
@@ -78,7 +78,8 @@ module _ (text : List ℕ) (script : Script) (old new : Ports) (ready : IsReadyT
       → IsOkOrNoMemory (Err refusal)
   read_whole given refusals.NoMemory same ends = tt
   read_whole given (refusals.BadScript i) same ends =
-      texts_are_one_script.none given script i (subst (λ (t : List ℕ). IsScript t script) (sym same) ready.is_script) ends
+      texts_are_one_script.none given script i (subst (λ (t : List ℕ). IsScript t script)
+      (sym same) ready.is_script) ends
   read_whole given refusal same ends = absurd ends
 
   told : (result : Result Unit Refusal) (answer : Result (List Reply) Refusal) (of : Script) → ReplayEnds of answer
@@ -94,7 +95,8 @@ module _ (text : List ℕ) (script : Script) (old new : Ports) (ready : IsReadyT
   pub replay_completes : (result : Result Unit Refusal) → DoesReplay old new result → IsOkOrNoMemory result
   replay_completes result (untaken given fault gives fails is same keeps) =
       subst IsOkOrNoMemory (sym is)
-      (body_taken MAX_BODY_BYTES text old new ready.source ready.is_body.most ready.no_source_fault given fault gives fails)
+      (body_taken MAX_BODY_BYTES text old new ready.source ready.is_body.most ready.no_source_fault given
+      fault gives fails)
   replay_completes result (unread given refusal is gives end ends named same keeps) =
       subst IsOkOrNoMemory (sym named)
       (read_whole given refusal (gives_all old.source.left text given new.source.left ready.source gives end) ends)

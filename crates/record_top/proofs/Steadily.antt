@@ -85,7 +85,8 @@ module _ (old new : Ports) (device : IsDevice old.device) (device_new : IsDevice
       (λ e is. (subst (FormatCommandEnds g old new) is does.ends).0)
 
   -- a format that is done leaves a volume
-  leaves_formatted : (g : Layout) (result : Result Unit Refusal) → g.cells ≡ old.device.cells → DoesFormat g old new result
+  leaves_formatted : (g : Layout) (result : Result Unit Refusal) → g.cells ≡ old.device.cells
+      → DoesFormat g old new result
       → LeavesFormatted new result
   leaves_formatted g result size does = by_answer result does.ends
     where
@@ -123,7 +124,8 @@ module _ (old new : Ports) (device : IsDevice old.device) (device_new : IsDevice
       → AsksRule old.device new.device answer → ((e : Evidence) → result ≡ Err (refusals.Tampered e) → ⊥)
       → AddsNone old new result
   rule_adds asks no_alarm = leaves_none
-      (looked_leaves old.device new.device new.device device asks.called (called_self new.device) asks.quiet begins asks.device)
+      (looked_leaves old.device new.device new.device device asks.called
+      (called_self new.device) asks.quiet begins asks.device)
       no_alarm
 
   find_adds : (asked : List (List ℕ)) (result : Result Unit Refusal) → DoesFind asked old new result
@@ -180,7 +182,8 @@ module _ (old new : Ports) (device : IsDevice old.device) (device_new : IsDevice
           → TellsFromMemory report_text a old new (Err (refusals.Tampered e)) → ⊥
       told (Ok report) comes e tells = tells
       told (Err refused) comes e tells = query_names (settles_first comes) e (ap Err (sym tells.0))
-          (licensed e (subst (λ (r : Refusal). SettlesThenAudits old.device new.device (Err r)) (sym tells.0) comes) begins.tells)
+          (licensed e (subst (λ (r : Refusal). SettlesThenAudits old.device new.device (Err r))
+          (sym tells.0) comes) begins.tells)
 
   replay_adds : (result : Result Unit Refusal) → DoesReplay old new result → AddsNone old new result
   replay_adds result does =
@@ -206,7 +209,8 @@ module _ (old new : Ports) (device : IsDevice old.device) (device_new : IsDevice
   between_adds : (from to : ℕ) (result : Result Unit Refusal) → DoesBetween from to old new result
       → AddsNone old new result
   between_adds from to result does = leaves_none (between_leaves from to old new device device_new begins result does)
-      (λ e is. between_names_none from to old new device device_new begins e (subst (DoesBetween from to old new) is does))
+      (λ e is. between_names_none from to old new device device_new begins e
+      (subst (DoesBetween from to old new) is does))
 
   exercise_adds : (documents : ℕ) (result : Result Unit Refusal) → DoesExercise documents old new result
       → AddsNone old new result

@@ -41,9 +41,9 @@ copied_line count = decimal count ++ codes " copied\n"
 abbrev pub copy_text : List Moved → List ℕ
 copy_text moved = lines_of moved_line moved ++ copied_line (length moved)
 
--- How the command ends, by what the copy answered: the text was put out whole; or the sink failed, and may have got some
--- first bytes of it; or no memory was to be had for it, and nothing is put out. A refusal of the copy is the command's,
--- and nothing is put out.
+-- How the command ends, by what the copy answered: the text was put out whole; or the sink failed, and may have got
+-- some first bytes of it; or no memory was to be had for it, and nothing is put out. A refusal of the copy is the
+-- command's, and nothing is put out.
 abbrev pub TellsCopy : Result (Vec Moved) CopyRefusal → SinkState → SinkState → Result Unit CopyRefusal → Type 0
 TellsCopy (Ok moved) old new (Ok u) = Gets old.held new.held (copy_text moved.items)
 TellsCopy (Ok moved) old new (Err SinkFault) = PutsPart (copy_text moved.items) old new

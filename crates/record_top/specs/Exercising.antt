@@ -1,5 +1,5 @@
--- The command `exercise`: it does the exercise with so many documents on a new device in memory, and puts out its lines. The
--- device that it is handed is left alone.
+-- The command `exercise`: it does the exercise with so many documents on a new device in memory, and puts out its
+-- lines. The device that it is handed is left alone.
 use Rattle.std.specs.Prelude.{◌≡◌, ℕ, Result, Ok, Err, ⊤}
 use Rattle.cell_types.specs.declared.refusal.Refusal.{Refusal}
 use Rattle.worm_device.specs.Counts.{IsStill}

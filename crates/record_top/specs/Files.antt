@@ -51,13 +51,14 @@ abbrev pub Acknowledges : Result Unit Refusal → ℕ → SinkState → SinkStat
 Acknowledges (Ok _) n old new = Gets old.held new.held (acknowledgement n)
 Acknowledges (Err refusal) n old new = ⊤
 
--- The index leads to these documents in the bytes that no crash takes, and in each file that a crash leaves from now on.
+-- The index leads to these documents in the bytes that no crash takes, and in each file that a crash leaves from now
+-- on.
 pub record IsLedToIn (cells : ℕ) (told : Told) (documents : List Document) : Type 0 where
   pub sure : Kept cells (image_of_bytes cells told.now.sure) documents
   pub left : (bytes : List ℕ) → CrashLeaves told.now bytes → Kept cells (image_of_bytes cells bytes) documents
 
--- The document is kept in a slot, which was acknowledged at Ok, and so is its stamp, if one was given. The index leads to
--- it, and to each document to which it led in the bytes before.
+-- The document is kept in a slot, which was acknowledged at Ok, and so is its stamp, if one was given. The index leads
+-- to it, and to each document to which it led in the bytes before.
 pub record IsDocumentStored (cells : ℕ) (id : List ℕ) (stamp : Option ℕ) (body : List ℕ) (before after : Told)
     (old new : SinkState) (result : Result Unit Refusal) : Type 0 where
   pub slot : ℕ

@@ -45,8 +45,8 @@ abbrev pub ReplayEnds : Script → Result (List Reply) Refusal → Type 0
 ReplayEnds script (Ok replies) = IsReplayOf script replies
 ReplayEnds script (Err refusal) = refusal ≡ NoMemory
 
--- What the command does, by how far it comes. The script is what the source gives up to its end, of at most as many bytes
--- as a body.
+-- What the command does, by how far it comes. The script is what the source gives up to its end, of at most as many
+-- bytes as a body.
 pub data DoesReplay (old new : Ports) (result : Result Unit Refusal) : Type 0 where
   -- no text is taken
   untaken : (given : List ℕ) (fault : BodyFault) → Gives old.source.left new.source.left given

@@ -6,12 +6,12 @@
 //!                     ingests both documents there: from slot 1 to slot 0,        2 1
 //!                     and from slot 2 to slot 1                                   2 copied
 //!
-//! Run again, it copies nothing anew and puts out the same: a document that is found in the target has its line, too. The
-//! text is made before its first byte goes out, so want of memory comes with nothing put out. The documents are in the
-//! target by then, at a fault of the sink as well.
+//! Run again, it copies nothing anew and puts out the same: a document that is found in the target has its line, too.
+//! The text is made before its first byte goes out, so want of memory comes with nothing put out. The documents are in
+//! the target by then, at a fault of the sink as well.
 //!
-//! Over two files, `run_two_over_files` says besides that what a crash leaves of a file is what it leaves of the device that
-//! shows the file.
+//! Over two files, `run_two_over_files` says besides that what a crash leaves of a file is what it leaves of the device
+//! that shows the file.
 //!
 //! `volume_copy` copies and says when each refusal comes; `specs/Copying.antt` says what the command does.
 ghost use Rattle.std.specs.Prelude.{map};
@@ -27,8 +27,8 @@ use std::alloc::Global;
 use volume_copy::copy_metered;
 use worm_device::Device;
 
-/// Copies a volume to another device, where the words are `copy` and the numbers of slots and lists that the target has or
-/// is to have, and puts out in which slot each document was and in which it is. Or it refuses.
+/// Copies a volume to another device, where the words are `copy` and the numbers of slots and lists that the target has
+/// or is to have, and puts out in which slot each document was and in which it is. Or it refuses.
 ///
 /// # Errors
 ///

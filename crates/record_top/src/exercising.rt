@@ -15,7 +15,8 @@ use volume_exercise::{BASE_CELLS, CELLS_PER_DOCUMENT, exercise_events, first_ref
 use worm_device::Device;
 use worm_memory::{MemoryDevice, the_count_is_recorded};
 
-/// Does the exercise with so many documents, on a device in memory of its own. The device that is handed in is left alone.
+/// Does the exercise with so many documents, on a device in memory of its own. The device that is handed in is left
+/// alone.
 pub fn exercise_volume<D: Device, S: Source, K: Sink>(
     alloc: Global,
     documents: u32,
@@ -33,8 +34,8 @@ pub fn exercise_volume<D: Device, S: Source, K: Sink>(
     exercise(alloc, documents, &mut device, sink)
 }
 
-/// Does the exercise with so many documents on this new device, and puts its lines into the sink. The text is made before
-/// its first byte goes out.
+/// Does the exercise with so many documents on this new device, and puts its lines into the sink. The text is made
+/// before its first byte goes out.
 pub fn exercise<K: Sink>(
     alloc: Global,
     documents: u32,

@@ -29,7 +29,8 @@ use host_files::{FileDevice, HostFile, crashes_are_seen};
 use host_ports::{Meter, Sink, Source};
 use std::alloc::Global;
 
-/// Carries out the command that the words ask for over a file, as `run` does over a device, and shows how far a long one is.
+/// Carries out the command that the words ask for over a file, as `run` does over a device, and shows how far a long
+/// one is.
 pub fn run_over_file<F: HostFile, S: Source, K: Sink, M: Meter>(
     alloc: Global,
     words: &[String],
@@ -43,8 +44,8 @@ pub fn run_over_file<F: HostFile, S: Source, K: Sink, M: Meter>(
         (ports_of (state_over device.old) (S.state source.old) (K.state sink.old))
         (ports_of (state_over device.new) (S.state source.new) (K.state sink.new)) result }
 
-    // Where `ingest` has stored its document, which it has at Ok, the file keeps it with its stamp, and each that stood at
-    // entry.
+    // Where `ingest` has stored its document, which it has at Ok, the file keeps it with its stamp, and each that stood
+    // at entry.
     ensures keeps { (id : List ℕ) (stamp : Option ℕ) → AsksToIngest (map string_bytes words.now) id stamp →
         KeepsIn (state_over device.new).cells id stamp
         (file_ports (file_below device.old).told (S.state source.old) (K.state sink.old))

@@ -18,8 +18,8 @@ use volume_meaning::MAX_BODY_BYTES;
 use worm_device::Device;
 use worm_memory::MemoryDevice;
 
-/// Replays the script that the source gives, on a device in memory of its own, and puts out the replies. The text is made
-/// before its first byte goes out. The device that is handed in is left alone.
+/// Replays the script that the source gives, on a device in memory of its own, and puts out the replies. The text is
+/// made before its first byte goes out. The device that is handed in is left alone.
 pub fn replay_script<D: Device, S: Source, K: Sink>(
     alloc: Global,
     _device: &mut D,

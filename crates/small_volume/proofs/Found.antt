@@ -1,17 +1,11 @@
 -- What is found in an image that is written out, where anything is.
-use Rattle.std.proofs.Common.{◌≡◌, ◌+◌, ◌⊎◌, inl, inr, ℕ, List, [], ◌∷◌, Some, true, sym, ◌∙◌, ap, arith, drop, slice_index}
+use Rattle.std.proofs.Common.{◌≡◌, ◌+◌, ◌⊎◌, inl, inr, ℕ, List, [], ◌∷◌, Some, true, sym, ◌∙◌, ap, arith, slice_index}
 use Rattle.std.proofs.lemmas.Option.{none-some}
-use Rattle.byteorder.specs.Endian.{big_number}
-use Rattle.cell_types.specs.Image.{Image}
 use Rattle.cell_types.specs.Layout.{Layout, reserve_at, root_at}
-use Rattle.cell_types.specs.declared.record_cell.RecordCell.{RecordCell}
 use Rattle.cell_types.specs.declared.record_cell.RecordCell.TheVariants.{Jump, Child}
-use Rattle.cell_types.proofs.OneRecord.{address_in}
 use Rattle.volume_meaning.specs.Volumes.{Holds, IsWritten}
-use Rattle.volume_meaning.proofs.Holding.{some_is}
 use Rattle.volume_meaning.specs.Blocks.{Leads, arrived, onwards, pointer_at}
 use Rattle.volume_meaning.specs.Nodes.{IsNode, root, under}
-use Rattle.tamper_rules.specs.Journals.{CopiesIndexCell, journal_at}
 use Rattle.small_volume.specs.Images.{image_with}
 use Rattle.small_volume.specs.SmallVolume.{small_image, small_layout, small_cells}
 use Rattle.small_volume.proofs.OneSlot.{IsAlone}
@@ -59,20 +53,6 @@ pub root_only : (g : Layout) (cells : List (ℕ × List ℕ)) → has_no 9 cells
 root_only g cells none (root v node is at) = (is, at)
 root_only g cells none (under v node w above x is rest xs less child from to) =
     absurd (no_child cells none (above + 16 + x) node child)
-
--- the number in the last four bytes of a cell
-abbrev address_of : List ℕ → ℕ
-address_of held = big_number 4 (drop 12 held)
-
--- a journal cell that holds the same as the cell of its own number has that cell as its target
-pub copied_to : (image : Image) (start size journal place number target : ℕ) (copied : RecordCell) (held : List ℕ)
-    → address_of held ≡ number → image number ≡ Some held → image (journal_at start size journal + place) ≡ Some held
-    → CopiesIndexCell image start size journal place target copied → image target ≡ image (journal_at start size journal + place)
-copied_to image start size journal place number target copied held read stands here c =
-    let entry : c.entry ≡ held = some_is c.entry held (sym c.stands ∙ here) in
-    let address : address_of c.entry ≡ target = address_in copied target c.entry c.address c.is in
-    let to : target ≡ number = sym address ∙ ap address_of entry ∙ read in
-    ap image to ∙ stands ∙ sym here
 
 -- the numbers of the small volume's eleven written cells
 pub numbers : (cell : ℕ) → IsWritten small_image cell

@@ -4,31 +4,18 @@ use Rattle.std.specs.Prelude.{slice_get}
 use Rattle.std.proofs.lemmas.Bool.{cases_lt}
 use Rattle.std.proofs.lemmas.Option.{none-some}
 use Rattle.cell_types.specs.Layout.{all_lists, list_at}
-use Rattle.cell_types.specs.declared.record_cell.RecordCell.TheVariants.{Bucket}
-use Rattle.volume_meaning.specs.Slots.{IsLive}
 use Rattle.volume_meaning.specs.Volumes.{Holds, IsWritten}
 use Rattle.volume_meaning.proofs.Holding.{some_is}
 use Rattle.volume_meaning.specs.Blocks.{PostingFields, posting_record, InFront, Trail, here, at_the_start, behind}
-use Rattle.volume_meaning.specs.HashPaths
-use Rattle.volume_meaning.specs.HashPaths.{fingerprint_of, nibble}
-use Rattle.volume_meaning.specs.Nodes.{root}
 use Rattle.volume_meaning.specs.Postings.{IsPostingOf, IsWordPosting}
 use Rattle.volume_meaning.proofs.Fronts.{one_posting}
-use Rattle.tamper_rules.specs.Rules.{PostingRule, IsTruePosting, BucketRule, IsTrueBucket, TrailRule, PathRule}
-use Rattle.small_volume.specs.SmallVolume.{small_image, small_layout, hello_tag, world_tag, a_fingerprint}
-use Rattle.small_volume.proofs.Digests.{sha256_of_a}
-use Rattle.small_volume.proofs.EachRule.{heads_alone, root_alone}
-use Rattle.small_volume.proofs.Found.{numbers}
-use Rattle.small_volume.proofs.Small.{slot_0, stands_0, hello_posting, hello_holds, world_posting, world_holds, bucket_holds}
+use Rattle.tamper_rules.specs.Rules.{PostingRule, IsTruePosting, TrailRule}
+use Rattle.small_volume.specs.SmallVolume.{small_image, small_layout, hello_tag, world_tag}
+use Rattle.small_volume.proofs.EachRule.{heads_alone}
+use Rattle.small_volume.proofs.Found.{numbers, alone}
+use Rattle.small_volume.proofs.OneSlot.{live_alone}
+use Rattle.small_volume.proofs.Small.{stands_0, hello_posting, hello_holds, world_posting, world_holds}
 use Rattle.small_volume.proofs.Tags.{tags_of_0, only_tags, no_tags, postings}
-
--- slot 0 is live
-live_0 : IsLive small_layout small_image 0
-live_0 = record {
-  slot = omega arith;
-  done = record { start = 580; length = 4; bytes = 13; journal = 3; done = slot_0 };
-  taken = λ m below. absurd (omega arith);
-}
 
 -- `hello` is the first posting of its document
 is_hello : IsWordPosting small_layout (codes "hello world") 0 0 hello_posting
@@ -58,7 +45,7 @@ is_world = record {
 true_hello : IsTruePosting small_layout small_image 0 hello_posting
 true_hello = record {
   slot = 0;
-  live = live_0;
+  live = live_alone alone;
   stamp = None;
   is_stamp = omega arith;
   id = codes "a";
@@ -72,7 +59,7 @@ true_hello = record {
 true_world : IsTruePosting small_layout small_image 0 world_posting
 true_world = record {
   slot = 0;
-  live = live_0;
+  live = live_alone alone;
   stamp = None;
   is_stamp = omega arith;
   id = codes "a";
@@ -100,30 +87,6 @@ posting_rule cell w = λ l block place p b below at h.
           let same = one_posting small_image 37 p world_posting held world_holds in
           subst (IsTruePosting small_layout small_image 0) (sym same) true_world
     ])
-
--- rule 11
-true_bucket : IsTrueBucket small_layout small_image 548 12
-true_bucket = record {
-  slot = 0;
-  fingerprint = a_fingerprint;
-  bucket = bucket_holds;
-  live = live_0;
-  id = codes "a";
-  body = codes "hello world";
-  stands = stands_0;
-  same = sym (ap fingerprint_of sha256_of_a);
-  level = 0;
-  on_path = root 0 548 refl refl;
-  here = sym (ap (λ (d : List ℕ). nibble d 0) sha256_of_a);
-}
-
--- rule 11: no other bucket is written
-pub bucket_rule : (cell : ℕ) → IsWritten small_image cell → BucketRule small_layout small_image cell
-bucket_rule cell w = λ v node x o less at.
-    let is = (root_alone o).1 in
-    let bucket : x ≡ 12 = omega (arith, numbers cell w, is, at, less) in
-    subst (λ (k : ℕ). IsTrueBucket small_layout small_image k x) (sym is)
-    (subst (λ (k : ℕ). IsTrueBucket small_layout small_image 548 k) (sym bucket) true_bucket)
 
 -- the posting of `hello` is in front of the first block
 hello_front : InFront small_image 36 0 hello_posting
@@ -174,7 +137,8 @@ trail_of_word (suc zero) p below i =
     absurd (none-some p.tag (ap (λ (ts : List (List ℕ)). slice_get ts i.ordinal) none ∙ i.here))
 trail_of_word (suc (suc l)) p below i = absurd (omega arith)
 
-trail_of : (l : ℕ) (p : PostingFields) → l < all_lists small_layout → IsPostingOf small_layout None (codes "hello world") 0 l p
+trail_of : (l : ℕ) (p : PostingFields) → l < all_lists small_layout
+    → IsPostingOf small_layout None (codes "hello world") 0 l p
     → (at : ℕ) × Trail small_image 580 1000 at p (list_at small_layout l)
 trail_of l p below (inl word) = trail_of_word l p (omega (arith, below)) word
 trail_of l p below (inr (seconds, given, list, is)) = absurd (omega (arith, below, list))
@@ -182,12 +146,3 @@ trail_of l p below (inr (seconds, given, list, is)) = absurd (omega (arith, belo
 -- rule 13
 pub trail_rule : TrailRule small_layout small_image 0 (codes "hello world")
 trail_rule = record { postings = postings; stamp = None; is_stamp = omega arith; trails = trail_of }
-
--- rule 14
-pub path_rule : PathRule small_layout small_image 0 (codes "a")
-path_rule = record {
-  path =
-      let HasBucket : List ℕ → Type 0 = λ d. Holds small_image (548 + nibble d 0) (Bucket 0 (fingerprint_of d)) in
-      HashPaths.HashTrail.here 548 0 (subst HasBucket (sym sha256_of_a) bucket_holds);
-  alone = λ m other less t. absurd (omega arith);
-}

@@ -1,9 +1,11 @@
 pub mod Broken
+pub mod Buckets
 pub mod Digests
 pub mod EachRule
 pub mod Found
 pub mod Index
 pub mod OneSlot
+pub mod OneSlotRules
 pub mod Settled
 pub mod Small
 pub mod StampOrder

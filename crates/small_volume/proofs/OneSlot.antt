@@ -6,7 +6,7 @@ use Rattle.cell_types.specs.Image.{Image}
 use Rattle.cell_types.specs.Layout.{Layout, reserve_at, outcome_at}
 use Rattle.cell_types.specs.declared.record_cell.RecordCell.TheVariants.{Reserve, Commit}
 use Rattle.volume_meaning.specs.Documents.{Document, IsDocument, AreDocuments, Stands}
-use Rattle.volume_meaning.specs.Slots.{Reserves, Stores, IsDone, IsDoneSlot, IsHorizon, IsEdge}
+use Rattle.volume_meaning.specs.Slots.{Reserves, Stores, IsDone, IsDoneSlot, IsHorizon, IsEdge, IsLive}
 use Rattle.volume_meaning.specs.Volumes.{Holds, IsVolume, IsWritten}
 use Rattle.volume_meaning.proofs.Holding.{one_record_holds}
 use Rattle.volume_meaning.proofs.OneDocument.{one_document, reserves, commits}
@@ -76,6 +76,15 @@ pub done_alone : {g : Layout} {image : Image} {start length bytes journal : ℕ}
 done_alone {g} {image} {start} {length} {bytes} {journal} a =
     record { start = start; length = length; bytes = bytes; journal = journal; done = a.done }
 
+-- and live
+pub live_alone : {g : Layout} {image : Image} {start length bytes journal : ℕ}
+    → IsAlone g image start length bytes journal → IsLive g image 0
+live_alone a = record {
+  slot = omega (arith, a.some);
+  done = done_alone a;
+  taken = λ m below. absurd (omega (arith, below));
+}
+
 -- each slot below a horizon is done
 pub ended_alone : {g : Layout} {image : Image} {start length bytes journal : ℕ}
     → IsAlone g image start length bytes journal → (u m : ℕ) → IsHorizon g image image u → m < u → IsDoneSlot g image m
@@ -106,7 +115,10 @@ pub documents_alone : {g : Layout} {image : Image} {start length bytes journal :
     → AreDocuments g.cells image (in_slot_0 id body ∷ [])
 documents_alone {g} {image} {start} {length} {bytes} {journal} {id} {body} a volume one =
     let document : Document = in_slot_0 id body in
-    let is : IsDocument g.cells image 0 id body = record { stands = one; taken = λ m below. absurd (omega (arith, below)) } in
+    let is : IsDocument g.cells image 0 id body = record {
+      stands = one;
+      taken = λ m below. absurd (omega (arith, below));
+    } in
     record {
       rise = (omega arith, tt);
       each = λ d. (

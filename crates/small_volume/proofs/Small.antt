@@ -113,7 +113,15 @@ reserves_0 = record { slot = omega arith; reserve = reserve_0; from = omega arit
 
 -- and it is done
 pub slot_0 : IsDone small_layout small_image 0 580 4 13 3
-slot_0 = record { commits = record { reserves = reserves_0; outcome = commit_0; fits = omega arith; stamped = λ is. absurd (omega (arith, is)) }; done = done_0 }
+slot_0 = record {
+  commits = record {
+    reserves = reserves_0;
+    outcome = commit_0;
+    fits = omega arith;
+    stamped = λ is. absurd (omega (arith, is));
+  };
+  done = done_0;
+}
 
 -- the stored bytes take one cell, which is cell 580
 pub spells : Spells small_image 580 (stored_bytes (codes "a") (codes "hello world"))

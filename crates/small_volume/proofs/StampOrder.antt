@@ -32,7 +32,8 @@ stamp_0 : (stamp : List ℕ) → HasStamp (with_next stamp) 0 1000
 stamp_0 stamp = holds_on (extends stamp) has_stamp
 
 -- the second slot has the stamp that was written
-pub stamp_1 : (seconds : ℕ) (stamp : List ℕ) → IsRecordCell (Stamp seconds) 11 stamp → HasStamp (with_next stamp) 1 seconds
+pub stamp_1 : (seconds : ℕ) (stamp : List ℕ) → IsRecordCell (Stamp seconds) 11 stamp
+    → HasStamp (with_next stamp) 1 seconds
 stamp_1 seconds stamp is = record { cell = stamp; stands = refl; is = is }
 
 -- where that is not greater than the stamp of slot 0, the rule is broken

@@ -1,5 +1,5 @@
 -- What stands in the stamped volume: its records, its slot, its stamp and its document.
-use Rattle.std.proofs.Common.{◌≡◌, ◌≤◌, ◌+◌, ℕ, List, [], Some, refl, sym, subst, arith, codes}
+use Rattle.std.proofs.Common.{◌≡◌, ◌+◌, ℕ, List, [], Some, refl, sym, subst, arith, codes}
 use Rattle.cell_types.specs.Layout.{IsLayout}
 use Rattle.cell_types.specs.Records.{IsRecordCell}
 use Rattle.cell_types.specs.declared.record_cell.RecordCell.TheVariants.{Reserve, Commit, Done, Stamp, Bucket}

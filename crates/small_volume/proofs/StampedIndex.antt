@@ -1,22 +1,18 @@
 -- The document of the stamped volume is kept: it has no words, so its time posting is its only one.
-use Rattle.std.proofs.Common.{◌≡◌, ◌<◌, ◌≤◌, ◌+◌, inl, inr, ℕ, zero, List, [], ◌∷◌, Some, refl, sym, ◌∙◌, subst, ap, arith, codes}
+use Rattle.std.proofs.Common.{◌≡◌, ◌<◌, inl, inr, ℕ, zero, List, [], ◌∷◌, Some, refl, sym, ◌∙◌, subst, ap, arith}
 use Rattle.std.specs.Prelude.{Contains, slice_get}
 use Rattle.std.proofs.lemmas.Option.{none-some}
 use Rattle.cell_types.specs.Layout.{all_lists, list_at}
-use Rattle.cell_types.specs.declared.record_cell.RecordCell.TheVariants.{Bucket}
 use Rattle.volume_meaning.specs.Documents.{Document}
-use Rattle.volume_meaning.specs.Volumes.{Holds}
 use Rattle.volume_meaning.specs.Words.{words_of, HasWord}
 use Rattle.volume_meaning.specs.declared.word_rules.WordRule.TheVariants.{Folded}
 use Rattle.volume_meaning.proofs.Words.{words_are_one}
 use Rattle.volume_meaning.specs.Blocks.{PostingFields, Trail, at_the_start, here}
-use Rattle.volume_meaning.specs.HashPaths
-use Rattle.volume_meaning.specs.HashPaths.{HashTrail, fingerprint_of, nibble}
-use Rattle.volume_meaning.specs.Keeping.{IsKept, Kept, sought_in}
+use Rattle.volume_meaning.specs.Keeping.{IsKept, Kept}
 use Rattle.volume_meaning.specs.Postings.{AreTags, HasPostings, HasTag, IsPostingOf, IsWordPosting, time_posting}
 use Rattle.tamper_rules.proofs.DocumentLists.{only_one}
 use Rattle.small_volume.specs.StampedVolume.{stamped_document, stamped_image, stamped_layout}
-use Rattle.small_volume.proofs.Digests.{sha256_of_a}
+use Rattle.small_volume.proofs.Buckets.{path}
 use Rattle.small_volume.proofs.Stamped.{volume, stamp_0, stands_0, time_holds, bucket_holds}
 
 -- no bytes have no words
@@ -67,7 +63,8 @@ same_number : (a b : ℕ) → Some a ≡ Some b → a ≡ b
 same_number a b e = cc
 
 -- each posting of the document is that one
-pub trail_of : (l : ℕ) (p : PostingFields) → l < all_lists stamped_layout → IsPostingOf stamped_layout (Some 1000) [] 0 l p
+pub trail_of : (l : ℕ) (p : PostingFields) → l < all_lists stamped_layout
+    → IsPostingOf stamped_layout (Some 1000) [] 0 l p
     → (at : ℕ) × Trail stamped_image 836 1200 at p (list_at stamped_layout l)
 trail_of l p below (inl word) = absurd (no_word_posting l p word)
 trail_of l p below (inr (seconds, given, list, is)) =
@@ -77,12 +74,6 @@ trail_of l p below (inr (seconds, given, list, is)) =
           (subst (λ (q : PostingFields). Trail stamped_image 836 1200 580 q 580) (sym same) time_trail),
     )
 
--- the bucket of `a` is the first on its path
-pub path : HashTrail stamped_image (sought_in 1200 stamped_layout (codes "a")) 0 548 0
-path =
-    let HasBucket : List ℕ → Type 0 = λ d. Holds stamped_image (548 + nibble d 0) (Bucket 0 (fingerprint_of d)) in
-    HashPaths.HashTrail.here 548 0 (subst HasBucket (sym sha256_of_a) bucket_holds)
-
 -- so the document is kept
 is_kept : IsKept 1200 stamped_image stamped_layout stamped_document
 is_kept = record {
@@ -91,7 +82,7 @@ is_kept = record {
   stamp = Some 1000;
   is_stamp = stamp_0;
   trails = trail_of;
-  path = path;
+  path = path stamped_layout stamped_image bucket_holds;
 }
 
 -- and so are the documents of the list that has it alone
@@ -99,6 +90,7 @@ pub kept : Kept 1200 stamped_image (stamped_document ∷ [])
 kept = record {
   layout = stamped_layout;
   volume = volume;
-  each = λ d among. subst (λ (e : Document). IsKept 1200 stamped_image stamped_layout e) (sym (only_one stamped_document d among))
+  each = λ d among. subst (λ (e : Document). IsKept 1200 stamped_image stamped_layout e)
+      (sym (only_one stamped_document d among))
       is_kept;
 }

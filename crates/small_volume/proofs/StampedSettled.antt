@@ -1,57 +1,40 @@
 -- The stamped volume is settled, and has one document.
-use Rattle.std.proofs.Common.{◌≡◌, ◌≤◌, inr, ℕ, [], ◌∷◌, sym, subst, arith}
-use Rattle.volume_meaning.specs.Documents.{AreDocuments, document_at}
-use Rattle.volume_meaning.specs.Volumes.{IsWritten}
-use Rattle.tamper_rules.specs.Rules
-use Rattle.tamper_rules.specs.Rules.{Rule, IsMet, ReserveRule, OutcomeRule, DoneRule, HasDocument, TrailRule, PathRule, TilingRule}
+use Rattle.std.proofs.Common.{◌+◌, [], ◌∷◌, refl, arith, codes}
+use Rattle.cell_types.specs.Layout.{done_at, outcome_at}
+use Rattle.volume_meaning.specs.Documents.{AreDocuments}
 use Rattle.tamper_rules.specs.Settling.{Settled}
-use Rattle.small_volume.specs.StampedVolume.{stamped_document, stamped_image, stamped_layout}
-use Rattle.small_volume.proofs.OneSlot.{documents_alone, ended_alone, of_one, stands_alone}
-use Rattle.small_volume.proofs.Stamped.{volume, stands_0}
-use Rattle.small_volume.proofs.StampedRules.{numbers, alone, reserve_rule, outcome_rule, done_rule, has_document, journal_rule, redone_rule, blank_rule, entry_rule, posting_rule, pointer_rule, bucket_rule, child_rule, trail_rule, path_rule, tiling_rule}
+use Rattle.small_volume.specs.StampedVolume.{stamped_cells, stamped_document, stamped_image, stamped_layout}
+use Rattle.small_volume.proofs.Buckets.{bucket_rule, path_rule}
+use Rattle.small_volume.proofs.OneSlot.{documents_alone}
+use Rattle.small_volume.proofs.OneSlotRules.{KeepsRules, settled_alone}
+use Rattle.small_volume.proofs.Stamped.{volume, stands_0, bucket_holds}
+use Rattle.small_volume.proofs.StampedRules.{numbers, alone, redone, blank_rule, entry_rule, posting_rule, pointer_rule, child_rule, trail_rule}
 
--- each rule, at each written cell
-met : (rule : Rule) (cell : ℕ) → IsWritten stamped_image cell
-    → IsMet stamped_layout stamped_image rule cell
-met Rules.ReserveCells cell w = λ n inside at.
-    let first : n ≡ 0 = omega (arith, numbers cell w, at) in
-    subst (ReserveRule stamped_layout stamped_image) (sym first) reserve_rule
-met Rules.OutcomeCells cell w = λ n inside at.
-    let first : n ≡ 0 = omega (arith, numbers cell w, at) in
-    subst (OutcomeRule stamped_layout stamped_image) (sym first) outcome_rule
-met Rules.DoneCells cell w = λ n inside at.
-    let first : n ≡ 0 = omega (arith, numbers cell w, at) in
-    subst (DoneRule stamped_image) (sym first) done_rule
-met Rules.Documents cell w = λ n inside at start reserved bytes journal s. of_one alone
-    (λ n start reserved bytes journal. HasDocument stamped_image (document_at start reserved bytes journal) bytes)
-    has_document s
-met Rules.Journals cell w = journal_rule cell
-met Rules.Targets cell w = redone_rule cell
-met Rules.StrayCells cell w = blank_rule cell w
-met Rules.Entries cell w = entry_rule cell w
-met Rules.Postings cell w = posting_rule cell w
-met Rules.Pointers cell w = pointer_rule cell w
-met Rules.Buckets cell w = bucket_rule cell w
-met Rules.Children cell w = child_rule cell w
-met Rules.Trails cell w = λ n id body at t.
-    let is = stands_alone alone volume stands_0 t in
-    subst (λ (k : ℕ). TrailRule stamped_layout stamped_image k body) (sym is.0)
-    (subst (TrailRule stamped_layout stamped_image 0) (sym is.2) trail_rule)
-met Rules.Paths cell w = λ n id body at t.
-    let is = stands_alone alone volume stands_0 t in
-    subst (λ (k : ℕ). PathRule stamped_layout stamped_image k id) (sym is.0)
-    (subst (PathRule stamped_layout stamped_image 0) (sym is.1) path_rule)
-met Rules.Tilings cell w = λ n start reserved bytes journal at d. of_one alone
-    (λ n start reserved bytes journal. TilingRule stamped_image start reserved bytes journal) tiling_rule
-    (record { commits = d.commits; done = inr d.done })
-
--- the stamped volume is settled
-pub is_settled : Settled 1200 stamped_image
-is_settled = record {
-  layout = stamped_layout;
+-- each rule is kept at each written cell
+keeps : KeepsRules stamped_layout stamped_image 836 3 2 2 (codes "a") []
+keeps = record {
+  alone = alone;
   volume = volume;
-  settled = record { met = met; ended = λ u m h less. inr (ended_alone alone u m h less) };
+  stands = stands_0;
+  first = refl;
+  no_block = refl;
+  outcome = λ n inside w. omega (arith, numbers (outcome_at n) w, inside);
+  done = λ n inside w. omega (arith, numbers (done_at n) w, inside);
+  redone = redone;
+  blank = blank_rule;
+  entry = entry_rule;
+  posting = posting_rule;
+  pointer = pointer_rule;
+  bucket = bucket_rule stamped_cells alone stands_0 bucket_holds refl
+      (λ x less w. omega (arith, numbers (548 + x) w, less));
+  child = child_rule;
+  trail = trail_rule;
+  path = path_rule stamped_layout stamped_image bucket_holds;
 }
+
+-- so the stamped volume is settled
+pub is_settled : Settled 1200 stamped_image
+is_settled = settled_alone keeps
 
 -- and has one document
 pub are_documents : AreDocuments 1200 stamped_image (stamped_document ∷ [])

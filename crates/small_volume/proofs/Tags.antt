@@ -23,7 +23,8 @@ one_of_two a b x (suc zero, low, is) = inr (sym is)
 one_of_two a b x (suc (suc k), low, is) = absurd (omega (arith, low))
 
 -- each word of the body is one of the two
-pub word_is : (word : List ℕ) → HasWord Ascii (codes "hello world") word → (word ≡ codes "hello") ⊎ (word ≡ codes "world")
+pub word_is : (word : List ℕ) → HasWord Ascii (codes "hello world") word
+    → (word ≡ codes "hello") ⊎ (word ≡ codes "world")
 word_is word h =
     let all : h.words ≡ codes "hello" ∷ codes "world" ∷ [] =
     words_are_one.one Ascii (codes "hello world") h.words h.are ∙ words in
@@ -113,7 +114,8 @@ tags_of_1 = record {
 pub postings : HasPostings small_layout (codes "hello world")
 postings = record { each = in_list }
   where
-    in_list : (l : ℕ) → l < 2 → (tags : List (List ℕ)) × AreTags small_layout (codes "hello world") l tags × (length tags ≤ 256)
+    in_list : (l : ℕ) → l < 2 → (tags : List (List ℕ)) × AreTags small_layout (codes "hello world") l tags
+        × (length tags ≤ 256)
     in_list zero below = (hello_tag ∷ world_tag ∷ [], tags_of_0, omega arith)
     in_list (suc zero) below = ([], tags_of_1, omega arith)
     in_list (suc (suc l)) below = absurd (omega arith)
@@ -124,7 +126,8 @@ number_is : (tag : List ℕ) → HasTag small_layout (codes "hello world") 0 tag
 number_is tag h = ⊎_elim (λ is. inl (ap (big_number 6) is)) (λ is. inr (ap (big_number 6) is)) (tag_is 0 tag h).1
 
 -- a list of its tags in list 0 has these two, in this order
-pub only_tags : (tags : List (List ℕ)) → AreTags small_layout (codes "hello world") 0 tags → tags ≡ hello_tag ∷ world_tag ∷ []
+pub only_tags : (tags : List (List ℕ)) → AreTags small_layout (codes "hello world") 0 tags
+    → tags ≡ hello_tag ∷ world_tag ∷ []
 only_tags [] are = absurd (omega (arith, (are.all hello_tag hello_tagged).1))
 only_tags (x ∷ []) are =
     let first = ap (big_number 6) (only hello_tag hello_tagged) in

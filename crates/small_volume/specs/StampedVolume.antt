@@ -1,6 +1,6 @@
--- The stamped volume: 8 slots, 2 lists, 1,200 cells, version 3, and the document `a` with no body and the stamp 1000, with
--- its index. Its cells are written out as those of the small volume are. Its done cell and its bucket are the same sixteen
--- bytes as there.
+-- The stamped volume: 8 slots, 2 lists, 1,200 cells, version 3, and the document `a` with no body and the stamp 1000,
+-- with its index. Its cells are written out as those of the small volume are. Its done cell and its bucket are the same
+-- sixteen bytes as there.
 use Rattle.std.specs.Prelude.{ℕ, List, [], ◌∷◌, codes}
 use Rattle.cell_types.specs.Image.{Image}
 use Rattle.cell_types.specs.Layout.{Layout}

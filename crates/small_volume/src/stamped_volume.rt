@@ -31,8 +31,8 @@ pub fn the_stamped_document_stands()
     ensures { Stands 1200 stamped_image 0 (codes "a") [] }
 {}
 
-/// The time posting of the stamp 1000 is one of slot 0's postings, in the time list, and has a trail there: it stands in
-/// cell 580, the first of the list.
+/// The time posting of the stamp 1000 is one of slot 0's postings, in the time list, and has a trail there: it stands
+/// in cell 580, the first of the list.
 pub fn the_time_posting_has_a_trail()
     ensures posting { IsPostingOf stamped_layout (Some 1000) [] 0 2 (time_posting 0 1000) }
     ensures trail { Trail stamped_image 836 1200 580 (time_posting 0 1000) 580 }

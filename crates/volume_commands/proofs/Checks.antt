@@ -122,7 +122,8 @@ module _ (r : Receipt) (body : List ℕ) (old new : Ports) (ready : IsReadyToChe
   accepted (check_refusals.NoMemory lack) checks = tt
 
   told : (result : Result Unit Refusal) (answer : Result Checked CheckRefusal) (other : Receipt)
-      → ChecksReceipt r old.device new.device answer → TellsFromMemory (kept_line other) (answer_of answer) old new result
+      → ChecksReceipt r old.device new.device answer → TellsFromMemory (kept_line other)
+      (answer_of answer) old new result
       → IsOkOrNoMemory result
   told (Ok u) answer other checks tells = tt
   told (Err refusals.NoMemory) (Ok done) other checks tells = tt

@@ -43,7 +43,8 @@ gives_all left body given new e gives end = all new (subst (λ (l : Option (List
     all None h at_end = absurd h
     all (Some rest) h at_end = sym (append-nil given) ∙ ap (λ (r : List ℕ). given ++ r) (sym at_end) ∙ sym h
 
-module _ (limit : ℕ) (body : List ℕ) (old new : Ports) (holds : old.source.left ≡ Some body) (most : length body ≤ limit)
+module _ (limit : ℕ) (body : List ℕ) (old new : Ports) (holds : old.source.left ≡ Some body)
+    (most : length body ≤ limit)
     (no_fault : IsStill old.source.faults new.source.faults) where
   -- a source that holds no more than is taken, and none of whose calls fails, gives it
   pub body_taken : (given : List ℕ) (fault : BodyFault) → Gives old.source.left new.source.left given
@@ -81,14 +82,16 @@ module _ {id : List ℕ} {stamp : Option ℕ} {body : List ℕ} {g : Layout} {sl
   ends_told (Err refusal) (Ok n) called ends tells = absurd tells
 
 module _ (id : List ℕ) (stamp : Option ℕ) (body : List ℕ) (g : Layout) (slot : ℕ) (old new : Ports)
-    (ready : IsReadyToIngest id stamp body g slot old new) (device : IsDevice old.device) (device_new : IsDevice new.device)
+    (ready : IsReadyToIngest id stamp body g slot old new) (device : IsDevice old.device)
+    (device_new : IsDevice new.device)
   where
     -- the answer is Ok, or want of memory
     pub ingest_completes : (result : Result Unit Refusal) → DoesIngest id stamp old new result → IsOkOrNoMemory result
     ingest_completes result (misnamed bad is same) = absurd (bad ready.identifier)
     ingest_completes result (untaken given fault name gives fails is same keeps) =
         subst IsOkOrNoMemory (sym is)
-        (body_taken MAX_BODY_BYTES body old new ready.source ready.is_body.most ready.no_source_fault given fault gives fails)
+        (body_taken MAX_BODY_BYTES body old new ready.source ready.is_body.most ready.no_source_fault given
+        fault gives fails)
     ingest_completes result (taken given answer name is gives end ingests tells) =
         let all = gives_all old.source.left body given new.source.left ready.source gives end in
         ends_told ready device device_new result answer ingests.called

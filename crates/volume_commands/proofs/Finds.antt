@@ -40,7 +40,7 @@ not_searched asked rule old new refusals.NoMemory asks ends source sink = unread
 not_searched asked rule old new refusal asks ends source sink = absurd ends
 
 -- what was kept when cell 0 was read is kept when the search begins, and is found
-pub kept_found : (terms : List (List ℕ)) (old mid new : DeviceState) (answer : Result (Vec Match) Refusal)
+kept_found : (terms : List (List ℕ)) (old mid new : DeviceState) (answer : Result (Vec Match) Refusal)
     → Called old mid → FindEnds terms mid new answer → FindsKept terms old answer
 kept_found terms old mid new (Ok matches) called ends = λ tells documents kept d among has.
     let finds = ends (subst IsTrue (sym called.tells) tells) in
@@ -53,6 +53,16 @@ kept_found terms old mid new (Ok matches) called ends = λ tells documents kept 
       matches = has.matches;
     })
 kept_found terms old mid new (Err refusal) called ends = tt
+
+-- so what the search answers is told as the command's
+pub found : {asked sought terms : List (List ℕ)} {old new : Ports} {mid : DeviceState} {rule : WordRule}
+    {result : Result Unit Refusal} (answer : Result (Vec Match) Refusal) → AsksRule old.device mid (Ok rule)
+    → AreTermsOf rule asked terms → sought ≡ terms → Searches sought mid new.device answer → new.source ≡ old.source
+    → TellsFromMemory found_text answer old new result → DoesFind asked old new result
+found {terms = terms} {old} {new} {mid} {rule} answer asks are same searches source tells =
+    let s = subst (λ (t : List (List ℕ)). Searches t mid new.device answer) same searches in
+    searched mid rule terms answer asks are s (kept_found terms old.device mid new.device answer asks.called s.ends) source
+    tells
 
 -- where a word is asked for, some term is sought
 pub some_term : (rule : WordRule) (asked terms : List (List ℕ)) → AreTermsOf rule asked terms → 1 ≤ length asked
@@ -111,7 +121,8 @@ module _ (asked : List (List ℕ)) (g : Layout) (old new : Ports) (ready : IsRea
   rule_is mid rule asks =
       let has = asks.ends.1 ready.log.tells in
       let same : has.0 ≡ g = one_layout {cells = mid.cells} {more = mid.cells} has.0 g has.1
-      (subst (λ (k : ℕ). IsVolume k mid.image g) (sym asks.called.cells) (volume_on asks.called.image ready.log.volume)) in
+      (subst (λ (k : ℕ). IsVolume k mid.image g) (sym asks.called.cells)
+      (volume_on asks.called.image ready.log.volume)) in
       has.2 ∙ ap (λ (l : Layout). rule_of l.version) same
 
   no_bad_word : (mid : DeviceState) (rule : WordRule) → AsksRule old.device mid (Ok rule) → (i : ℕ)

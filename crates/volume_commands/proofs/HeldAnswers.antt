@@ -28,8 +28,12 @@ module _ (old new : Ports) (device : IsDevice old.device) (device_new : IsDevice
     -- the volume that stands behind the search has the rule that was read
     rule_now : Called mid new.device → HasRule new.device.cells new.device.image rule
     rule_now called =
-        let has = asks.ends.1 begins.tells in
-        (has.0, subst (λ (k : ℕ). IsVolume k new.device.image has.0) (sym called.cells) (volume_on called.image has.1), has.2)
+        let has = asks.ends.1 begins.tells in (
+          has.0,
+          subst (λ (k : ℕ). IsVolume k new.device.image has.0) (sym called.cells)
+              (volume_on called.image has.1),
+          has.2,
+        )
 
     find_told : (asked terms : List (List ℕ)) (answer : Result (Vec Match) Refusal) → AreTermsOf rule asked terms
         → Searches terms mid new.device answer → TellsFromMemory found_text answer old new (Ok tt)
@@ -65,7 +69,8 @@ module _ (old new : Ports) (device : IsDevice old.device) (device_new : IsDevice
       → LooksUp id old.device new.device old.sink new.sink answer → Answers answer (Ok tt)
       → LooksUpHeld id old new (Ok tt)
   looked_up id (Ok found) looks answers = λ documents held.
-      let stand = stand_now old.device new.device device device_new begins found documents held (Ok found) refl looks.comes in
+      let stand = stand_now old.device new.device device device_new begins found documents held
+      (Ok found) refl looks.comes in
       let puts = looks.ends in
       let first = puts.first begins.tells in (
         found.slot,

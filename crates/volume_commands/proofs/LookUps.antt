@@ -35,7 +35,8 @@ module _ (id : List ℕ) (old new : Ports) where
       refusals.BadIdentifier (λ s. absurd cc) refl is
   look_up_is_used (looked answer name looks source answers) = answers_used answer looks.ends answers
 
-module _ (id : List ℕ) (g : Layout) (old new : Ports) (ready : IsReadyToLookUp id g old new) (device : IsDevice old.device)
+module _ (id : List ℕ) (g : Layout) (old new : Ports) (ready : IsReadyToLookUp id g old new)
+    (device : IsDevice old.device)
     (device_new : IsDevice new.device) where
   -- the sink does not fail
   no_sink_fault : (refusal : Refusal) → LookUpEnds id old.device new.device old.sink new.sink (Err refusal)
@@ -48,7 +49,8 @@ module _ (id : List ℕ) (g : Layout) (old new : Ports) (ready : IsReadyToLookUp
   answered result (Ok found) looks answers = subst IsOkOrAbsent (sym answers) tt
   answered result (Err refusal) looks answers =
       subst IsOkOrAbsent (sym answers)
-      (subst (λ (r : Refusal). IsOkOrAbsent (Err r)) (sym (looks_whole ready.log device device_new looks.called id old.sink
+      (subst (λ (r : Refusal). IsOkOrAbsent (Err r)) (sym (looks_whole ready.log device device_new
+      looks.called id old.sink
       new.sink refusal looks.comes (no_sink_fault refusal looks.ends) looks.ends)) tt)
 
   -- the answer is Ok, or no document has the identifier

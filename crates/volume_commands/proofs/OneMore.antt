@@ -56,11 +56,13 @@ module _ (id : List ℕ) (stamp : Option ℕ) (body : List ℕ) (need free : ℕ
             (subst (λ (i : Image). IsVolume new.cells i g) ended.image (volume_2 h.ready has begins.tells));
         slot = h.ready.horizon;
         horizon = subst (λ (i : Image). IsHorizon g i i h.ready.horizon) ended.image
-            (planned.horizon_now old new h.ready begins.tells has begins.alone device device_new begins.steady id stamp body
+            (planned.horizon_now old new h.ready begins.tells has begins.alone device device_new
+            begins.steady id stamp body
             h.settled.takes h.index h.settled.slot h.has);
         edge = h.ready.edge;
         is_edge = subst (λ (i : Image). IsEdge g i i h.ready.edge) ended.image
-            (planned.edge_now old new h.ready begins.tells has begins.alone device device_new begins.steady id stamp body
+            (planned.edge_now old new h.ready begins.tells has begins.alone device device_new
+            begins.steady id stamp body
             h.settled.takes h.index h.settled.slot h.has);
         need_is = subst (λ (i : Image). IsNeed g i h.ready.horizon id body stamp need) ended.image
             (subst (λ (n : ℕ). IsNeed g new.image h.ready.horizon id body stamp n) (sym h.need_is)
@@ -70,7 +72,8 @@ module _ (id : List ℕ) (stamp : Option ℕ) (body : List ℕ) (need free : ℕ
         less = h.less;
       }
 
-module _ (id : List ℕ) (stamp : Option ℕ) (old new : Ports) (device : IsDevice old.device) (device_new : IsDevice new.device)
+module _ (id : List ℕ) (stamp : Option ℕ) (old new : Ports) (device : IsDevice old.device)
+    (device_new : IsDevice new.device)
     (begins : BeginsSteady old.device new.device) where
   -- no body is taken
   not_taken : (given : List ℕ) (fault : BodyFault) (result : Result Unit Refusal)
@@ -81,10 +84,12 @@ module _ (id : List ℕ) (stamp : Option ℕ) (old new : Ports) (device : IsDevi
 
   not_named : (fault : BodyFault) (result : Result Unit Refusal) (e : Evidence)
       → result ≡ Err (refusal_of_body_fault fault) → result ≡ Err (refusals.Tampered e) → ⊥
-  not_named faults.TooLong result e p q = other_refusal result refusals.TooLong (refusals.Tampered e) (λ s. absurd cc) p q
+  not_named faults.TooLong result e p q =
+      other_refusal result refusals.TooLong (refusals.Tampered e) (λ s. absurd cc) p q
   not_named faults.SourceFailed result e p q =
       other_refusal result refusals.SourceFault (refusals.Tampered e) (λ s. absurd cc) p q
-  not_named (faults.NoMemory lack) result e p q = other_refusal result refusals.NoMemory (refusals.Tampered e) (λ s. absurd cc) p q
+  not_named (faults.NoMemory lack) result e p q =
+      other_refusal result refusals.NoMemory (refusals.Tampered e) (λ s. absurd cc) p q
 
   not_full : (fault : BodyFault) (result : Result Unit Refusal) (need free : ℕ)
       → result ≡ Err (refusal_of_body_fault fault) → result ≡ Err (refusals.Full need free) → ⊥
@@ -126,7 +131,8 @@ module _ (id : List ℕ) (stamp : Option ℕ) (old new : Ports) (device : IsDevi
         → IsExactlyTooMany id stamp body need free old.device
     full_needs (Ok n) need free ingests tells = absurd tells
     full_needs (Err refused) need free ingests tells = exactly id stamp body need free old.device new.device device
-        device_new begins (subst (λ (r : Refusal). IngestEnds id stamp body old.device new.device (Err r)) (sym tells.0) ingests.ends)
+        device_new begins (subst (λ (r : Refusal). IngestEnds id stamp body old.device new.device (Err r))
+        (sym tells.0) ingests.ends)
 
     refused_holds : (answer : Result ℕ Refusal) (result : Result Unit Refusal)
         → Ingests id stamp body old.device new.device answer → Tells acknowledgement answer old new result
@@ -141,7 +147,8 @@ module _ (id : List ℕ) (stamp : Option ℕ) (old new : Ports) (device : IsDevi
         (λ fault. subst HasRefused (ap refuses (tells.0 ∙ fault)) has) ingests.comes ingests.ends
 
   -- whatever it answers
-  pub ingest_adds : (result : Result Unit Refusal) → DoesIngest id stamp old new result → AddsOne id stamp old new result
+  pub ingest_adds : (result : Result Unit Refusal) → DoesIngest id stamp old new result
+      → AddsOne id stamp old new result
   ingest_adds result (misnamed bad is same) = record {
     body = [];
     gives = subst (λ (p : Ports). Gives old.source.left p.source.left []) (sym same) (gives_nothing old.source.left);

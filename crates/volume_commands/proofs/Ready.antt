@@ -18,7 +18,8 @@ module _ (id : List ℕ) (old new : Ports) (tells : IsTrue old.device.tells) whe
   ready : (answer : Result Receipt Refusal) → MakesReceipt id old.device new.device answer
       → TellsFromMemory text_of_receipt answer old new (Ok tt)
       → (r : Receipt) × (body : List ℕ) × PutsOut (text_of_receipt r) old new
-      × ((before after : Ports) → IsGivenLater (text_of_receipt r) new before after → IsReadyToCheck r body before after)
+      × ((before after : Ports) → IsGivenLater (text_of_receipt r) new before after
+      → IsReadyToCheck r body before after)
   ready (Err refusal) makes told = absurd told
   ready (Ok r) makes told =
       let is = makes.ends.1 in (

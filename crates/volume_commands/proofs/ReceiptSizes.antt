@@ -18,7 +18,12 @@ ten_digits n few = length-decimal-le 10 n (omega arith) (omega (arith, few)) (om
 line_more : (line : List ℕ) (lines : List (List ℕ))
     → length (text_of_lines (line ∷ lines)) ≡ length line + 1 + length (text_of_lines lines)
 line_more line lines =
-    omega (arith, length-append line (codes "\n" ++ text_of_lines lines), length-append (codes "\n") (text_of_lines lines))
+    omega (
+      arith,
+      length-append line (codes "\n" ++ text_of_lines lines),
+      length-append (codes "\n")
+          (text_of_lines lines),
+    )
 
 cell_line_fits : (at : ℕ) (value : List ℕ) → at < 2 ^ 32 → IsCell value → length (cell_line (at, value)) ≤ 43
 cell_line_fits at value few is = omega (

@@ -1,5 +1,5 @@
--- How the command `receipt` ends: over what every call of the device keeps, never with `Usage`; where nothing hinders it
--- with no refusal but three; and from a steady device on, where nobody else writes, by the documents that were held.
+-- How the command `receipt` ends: over what every call of the device keeps, never with `Usage`; where nothing hinders
+-- it with no refusal but three; and from a steady device on, where nobody else writes, by the documents that were held.
 use Rattle.std.proofs.Common.{ℕ, List, Result, Ok, Err, refl, ap, subst, sym}
 use Rattle.cell_types.specs.Layout.{Layout}
 use Rattle.cell_types.specs.declared.refusal.Evidence.{Evidence}
@@ -42,7 +42,8 @@ module _ (id : List ℕ) (old new : Ports) where
       (λ s. absurd cc) refl is
   receipt_is_used (made answer name makes source tells) = told_used answer makes.ends tells
 
-module _ (id : List ℕ) (g : Layout) (old new : Ports) (ready : IsReadyForReceipt id g old new) (device : IsDevice old.device)
+module _ (id : List ℕ) (g : Layout) (old new : Ports) (ready : IsReadyForReceipt id g old new)
+    (device : IsDevice old.device)
     (device_new : IsDevice new.device) where
   settling : HasWholeLog IsSettlingRule g old.device new.device
   settling = settling_steady ready.log
@@ -103,7 +104,8 @@ module _ (id : List ℕ) (old new : Ports) (device : IsDevice old.device) (devic
   shown (Err refusal) makes tells = absurd tells
 
   none_there : (answer : Result Receipt Refusal) → MakesReceipt id old.device new.device answer
-      → TellsFromMemory text_of_receipt answer old new (Err refusals.Absent) → ShowsHeld id old new (Err refusals.Absent)
+      → TellsFromMemory text_of_receipt answer old new (Err refusals.Absent)
+      → ShowsHeld id old new (Err refusals.Absent)
   none_there (Ok r) makes tells = absurd tells
   none_there (Err refused) makes tells = λ documents held.
       let ends = subst (λ (r : Refusal). MakeEnds id old.device new.device (Err r)) (sym tells.0) makes.ends in
@@ -113,7 +115,8 @@ module _ (id : List ℕ) (old new : Ports) (device : IsDevice old.device) (devic
   pub receipt_held : (result : Result Unit Refusal) → DoesReceipt id old new result → ShowsHeld id old new result
   receipt_held (Ok u) (misnamed bad is same) = absurd (no_answer (Ok u) u refusals.BadIdentifier refl is)
   receipt_held (Ok u) (made answer name makes source tells) = shown answer makes tells
-  receipt_held (Err refusals.Absent) (misnamed bad is same) = absurd (other_refusal (Err refusals.Absent) refusals.Absent
+  receipt_held (Err refusals.Absent) (misnamed bad is same) =
+      absurd (other_refusal (Err refusals.Absent) refusals.Absent
       refusals.BadIdentifier (λ s. absurd cc) refl is)
   receipt_held (Err refusals.Absent) (made answer name makes source tells) = none_there answer makes tells
   receipt_held (Err refusal) does = tt

@@ -1,5 +1,5 @@
--- How the command `between` ends: never with `Usage`; where nothing hinders it with no refusal but want of memory; and from a
--- steady device on, where nobody else writes, by just the documents that the volume held at entry.
+-- How the command `between` ends: never with `Usage`; where nothing hinders it with no refusal but want of memory; and
+-- from a steady device on, where nobody else writes, by just the documents that the volume held at entry.
 use Rattle.std.proofs.Common.{◌≡◌, ℕ, List, Result, Ok, Err, refl, ap, sym, subst, arith}
 use Rattle.std.specs.Global.{Vec}
 use Rattle.cell_types.specs.Layout.{Layout}

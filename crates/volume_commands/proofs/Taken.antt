@@ -9,7 +9,8 @@ use Rattle.volume_commands.specs.declared.body.BodyFault.TheVariants.{TooLong, S
 use Rattle.volume_commands.specs.Taking.{AreBytesUpTo, BodyFails, TakePieceEnds, TakesPiece}
 use Rattle.volume_commands.proofs.Pieces.{gives_then}
 
-module _ (limit : ℕ) (body body' : List ℕ) (first old new : SourceState) (so_far : Gives first.left old.left body) (room : ℕ)
+module _ (limit : ℕ) (body body' : List ℕ) (first old new : SourceState)
+    (so_far : Gives first.left old.left body) (room : ℕ)
     (within : length body + room ≤ limit + 1) where
   -- the last piece could not be taken
   pub piece_failed : (fault : BodyFault) → TakePieceEnds room body body' old new (Err fault) → AreBytesUpTo limit body

@@ -79,7 +79,8 @@ module _ {rule : WordRule} {asked terms : List (List ℕ)} {n : ℕ} (so_far : T
   }
 
   -- one word more: its term is among those that more are
-  module _ (more : List (List ℕ)) (word term : List ℕ) (at : slice_get asked n ≡ Some word) (is : IsOneTerm rule word term)
+  module _ (more : List (List ℕ)) (word term : List ℕ) (at : slice_get asked n ≡ Some word)
+      (is : IsOneTerm rule word term)
       (grows : (t : List ℕ) → Contains terms t → Contains more t) (among : Contains more term)
       (only : (t : List ℕ) → Contains more t → Contains terms t ⊎ (term ≡ t)) (once : StandOnce more)
       (few : length more ≤ n + 1) where

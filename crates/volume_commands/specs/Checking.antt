@@ -28,8 +28,8 @@ abbrev pub answer_of : Result Checked CheckRefusal → Result Checked Refusal
 answer_of (Ok done) = Ok done
 answer_of (Err refusal) = Err (refusal_of_check refusal)
 
--- What the command does, by how far it comes. The device is asked for how many cells it has, and else left alone, before a
--- receipt is read.
+-- What the command does, by how far it comes. The device is asked for how many cells it has, and else left alone,
+-- before a receipt is read.
 pub data DoesCheck (old new : Ports) (result : Result Unit Refusal) : Type 0 where
   -- no text is taken
   untaken : (given : List ℕ) (fault : BodyFault) → Gives old.source.left new.source.left given

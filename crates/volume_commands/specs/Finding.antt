@@ -71,9 +71,9 @@ FindsKept terms old (Ok matches) = IsTrue old.tells → (documents : List Docume
     → FindsAllOf old.cells old.image terms matches.items documents
 FindsKept terms old (Err refusal) = ⊤
 
--- What the command does, by how far it comes. Cell 0 is read first, in one read, since it tells by which rule words are read.
--- Then the words are read, and nothing is written before all of them are. So the command reads one cell more than the search
--- for no more terms than there are words, whose bound the engine states.
+-- What the command does, by how far it comes. Cell 0 is read first, in one read, since it tells by which rule words are
+-- read. Then the words are read, and nothing is written before all of them are. So the command reads one cell more than
+-- the search for no more terms than there are words, whose bound the engine states.
 pub data DoesFind (asked : List (List ℕ)) (old new : Ports) (result : Result Unit Refusal) : Type 0 where
   -- no volume stands there, or cell 0 was not read
   unruled : (refusal : Refusal) → AsksRule old.device new.device (Err refusal) → result ≡ Err refusal

@@ -48,9 +48,9 @@ HasRefused (Err SinkFault) = ⊥
 HasRefused (Err DeviceFault) = ⊥
 HasRefused (Err refusal) = ⊤
 
--- All is as the command wants it. Whatever a crash leaves of the device at entry is blank or sound, and what stands is a
--- volume that has a place for the document, with this stamp exactly where its documents have one. The source holds the
--- body. Nobody else writes, and no call fails.
+-- All is as the command wants it. Whatever a crash leaves of the device at entry is blank or sound, and what stands is
+-- a volume that has a place for the document, with this stamp exactly where its documents have one. The source holds
+-- the body. Nobody else writes, and no call fails.
 pub record IsReadyToIngest (id : List ℕ) (stamp : Option ℕ) (body : List ℕ) (g : Layout) (slot : ℕ) (old new : Ports)
     : Type 0 where
   pub identifier : IsIdentifier id

@@ -15,8 +15,8 @@ use Rattle.volume_commands.specs.Ports.{Ports, TellsFromMemory}
 pub data DoesReceipt (id : List ℕ) (old new : Ports) (result : Result Unit Refusal) : Type 0 where
   -- the word is no identifier, and nothing is done
   misnamed : (IsIdentifier id → ⊥) → result ≡ Err BadIdentifier → new ≡ old → DoesReceipt id old new result
-  -- A receipt is made, as the engine says, or that is ended, and its text is told. The text is made before its first byte
-  -- goes out.
+  -- A receipt is made, as the engine says, or that is ended, and its text is told. The text is made before its first
+  -- byte goes out.
   made : (answer : Result Receipt Refusal) → IsIdentifier id → MakesReceipt id old.device new.device answer
       → new.source ≡ old.source → TellsFromMemory text_of_receipt answer old new result → DoesReceipt id old new result
 
@@ -26,7 +26,8 @@ pub record IsReadyForReceipt (id : List ℕ) (g : Layout) (old new : Ports) : Ty
   pub log : HasSteadyVolume g old.device new.device
   pub no_sink_fault : IsStill old.sink.faults new.sink.faults
 
--- the answer is Ok; or no document has the identifier, its receipt would have too many cells, or no memory was to be had
+-- the answer is Ok; or no document has the identifier, its receipt would have too many cells, or no memory was to be
+-- had
 abbrev pub IsOkOrNoReceipt : Result Unit Refusal → Type 0
 IsOkOrNoReceipt (Ok _) = ⊤
 IsOkOrNoReceipt (Err Absent) = ⊤

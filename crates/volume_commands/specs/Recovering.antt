@@ -24,8 +24,8 @@ step_text (Completed n) = slot_line (codes "slot ") n (codes " completed\n")
 abbrev pub recovered : Ready → List ℕ
 recovered ready = step_text ready.step
 
--- Where nobody else writes, a sound volume becomes just what settling makes of it; all of it is sure, and the step is the
--- one of its last slot.
+-- Where nobody else writes, a sound volume becomes just what settling makes of it; all of it is sure, and the step is
+-- the one of its last slot.
 abbrev pub MakesWhole : DeviceState → DeviceState → Result Ready Refusal → Type 0
 MakesWhole old new (Ok r) =
     IsTrue old.tells → IsStill old.foreign_writes new.foreign_writes → (sound : Sound old.cells old.image)

@@ -16,7 +16,8 @@ use Rattle.volume_commands.specs.Ports.{Ports, TellsFromMemory}
 abbrev pub line_start : ℕ → List ℕ → List ℕ
 line_start slot identifier = decimal slot ++ (codes " " ++ (identifier ++ codes " "))
 
--- the line that tells of a document with its stamp: its slot, its identifier, the seconds, and how many bytes its body has
+-- the line that tells of a document with its stamp: its slot, its identifier, the seconds, and how many bytes its body
+-- has
 abbrev pub stamped_line : ℕ → List ℕ → ℕ → ℕ → List ℕ
 stamped_line slot identifier seconds bytes =
     line_start slot identifier ++ (decimal seconds ++ (codes " " ++ (decimal bytes ++ codes "\n")))
@@ -33,8 +34,8 @@ span_text matches = found_lines time_line matches
 abbrev pub between_text : Vec TimeMatch → List ℕ
 between_text matches = span_text matches.items
 
--- What the command does: the documents of the span are asked for, as the engine says, and its answer is told. The text is
--- made before its first byte goes out.
+-- What the command does: the documents of the span are asked for, as the engine says, and its answer is told. The text
+-- is made before its first byte goes out.
 pub record DoesBetween (from to : ℕ) (old new : Ports) (result : Result Unit Refusal) : Type 0 where
   pub answer : Result (Vec TimeMatch) Refusal
   pub finds : FindsBetween from to old.device new.device answer

@@ -30,8 +30,8 @@ use Rattle.time_index.specs.Spans.{FindsSpanOf, IsStampedSlot, SlotsRise}
 use Rattle.time_index.specs.declared.found.TimeMatch.{TimeMatch}
 
 -- A crash in the command leaves an image that is blank or sound, with the documents that were sure at entry or those
--- that stood there. Behind it, whatever it answers, the device is steady and holds the documents that stood at entry; and
--- no tampering is named.
+-- that stood there. Behind it, whatever it answers, the device is steady and holds the documents that stood at entry;
+-- and no tampering is named.
 pub record AddsNone (old new : Ports) (result : Result Unit Refusal) : Type 0 where
   pub stays : StaysSteady old.device new.device
   pub keeps : (documents : List Document) → Held old.device.cells old.device.image documents
@@ -48,8 +48,8 @@ FindsHeld asked old new (Ok u) =
     × AreMatchesOf new.device terms documents matches × PutsOut (find_text matches) old new
 FindsHeld asked old new (Err refusal) = ⊤
 
--- A look-up that is done has put out the body of a document that the volume held at entry, with the identifier; and where
--- it answers that there is none, none had it.
+-- A look-up that is done has put out the body of a document that the volume held at entry, with the identifier; and
+-- where it answers that there is none, none had it.
 abbrev pub LooksUpHeld : List ℕ → Ports → Ports → Result Unit Refusal → Type 0
 LooksUpHeld id old new (Ok u) =
     (documents : List Document) → Held old.device.cells old.device.image documents
@@ -59,8 +59,8 @@ LooksUpHeld id old new (Err Absent) =
     → (d : Document) → Contains documents d → d.id ≡ id → ⊥
 LooksUpHeld id old new (Err refusal) = ⊤
 
--- A receipt that is put out is of a document that the volume held at entry, with the identifier: its cells alone keep it.
--- Where it answers that there is none, none had the identifier.
+-- A receipt that is put out is of a document that the volume held at entry, with the identifier: its cells alone keep
+-- it. Where it answers that there is none, none had the identifier.
 abbrev pub ShowsHeld : List ℕ → Ports → Ports → Result Unit Refusal → Type 0
 ShowsHeld id old new (Ok u) =
     (documents : List Document) → Held old.device.cells old.device.image documents
@@ -81,8 +81,8 @@ pub record AreTimeMatchesOf (s : DeviceState) (from to : ℕ) (documents : List 
       × (found.seconds ≤ to)
   pub rise : SlotsRise 0 matches
 
--- A search by time that is done has told of just those documents that the volume held at entry and whose stamps lie in the
--- span.
+-- A search by time that is done has told of just those documents that the volume held at entry and whose stamps lie in
+-- the span.
 abbrev pub FindsHeldBetween : ℕ → ℕ → Ports → Ports → Result Unit Refusal → Type 0
 FindsHeldBetween from to old new (Ok u) =
     (documents : List Document) → Held old.device.cells old.device.image documents
@@ -112,10 +112,10 @@ pub record IsExactlyTooMany (id : List ℕ) (stamp : Option ℕ) (body : List �
   pub less : free < need
 
 -- A crash in an ingest leaves an image that is blank or sound, with the documents that were sure at entry, those that
--- stood there, or these and the new one behind them with its stamp; the device is steady behind it, and no tampering is named. Where
--- the document is stored, the volume is settled, all of it sure, and has it behind the documents that it held, with its
--- stamp, in the slot that is acknowledged; any refusal but a fault of the device leaves the documents as they were; and where there
--- was no room, the need is exact. The body is what the source gave.
+-- stood there, or these and the new one behind them with its stamp; the device is steady behind it, and no tampering is
+-- named. Where the document is stored, the volume is settled, all of it sure, and has it behind the documents that it
+-- held, with its stamp, in the slot that is acknowledged; any refusal but a fault of the device leaves the documents as
+-- they were; and where there was no room, the need is exact. The body is what the source gave.
 pub record AddsOne (id : List ℕ) (stamp : Option ℕ) (old new : Ports) (result : Result Unit Refusal) : Type 0 where
   pub body : List ℕ
   pub gives : Gives old.source.left new.source.left body

@@ -12,8 +12,8 @@ use std::alloc::Global;
 use time_index::{TimeMatch, between};
 use worm_device::Device;
 
-/// Searches the documents whose stamps lie from one time to another, in seconds, and puts out which they are. The text is
-/// made before its first byte goes out.
+/// Searches the documents whose stamps lie from one time to another, in seconds, and puts out which they are. The text
+/// is made before its first byte goes out.
 pub fn find_between<D: Device, S: Source, K: Sink>(
     alloc: Global,
     from: u32,

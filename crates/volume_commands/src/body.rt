@@ -53,7 +53,8 @@ impl From<BodyFault> for Refusal {
     }
 }
 
-/// Takes what the source gives up to its end. Where that is more than so many bytes, it stops at the first byte too many.
+/// Takes what the source gives up to its end. Where that is more than so many bytes, it stops at the first byte too
+/// many.
 pub fn take_input<S: Source>(
     alloc: Global,
     source: &mut S,

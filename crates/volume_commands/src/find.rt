@@ -17,8 +17,8 @@ use volume_meaning::{WordRule, rule_of};
 use word_reader::{Term, WordFault, single_term};
 use worm_device::Device;
 
-/// Searches the documents for the words, 8 at most, and puts out which have them all. The words are read by the volume's
-/// rule, and the text is made before its first byte goes out.
+/// Searches the documents for the words, 8 at most, and puts out which have them all. The words are read by the
+/// volume's rule, and the text is made before its first byte goes out.
 pub fn find_documents<D: Device, S: Source, K: Sink>(
     alloc: Global,
     words: &[String],
@@ -49,7 +49,8 @@ fn rule_on<D: Device>(device: &mut D) -> Result<WordRule, Refusal>
     Ok(rule_of(volume.version))
 }
 
-/// The terms of the words by this rule, each once. `BadWord` names the first word, from 1, that does not hold exactly one.
+/// The terms of the words by this rule, each once. `BadWord` names the first word, from 1, that does not hold exactly
+/// one.
 fn terms_of(alloc: Global, words: &[String], rule: WordRule) -> Result<Vec<Term>, Refusal>
     requires { length words.now ≤ MAX_QUERY_WORDS }
     ensures { TermsEnd rule (map string_bytes words.now) result }

@@ -12,21 +12,21 @@
 //!     receipt a       lists the cells that show that the document is kept          receipt 0 a ..
 //!     check           checks the receipt that the source gives                     kept 0 a 11
 //!
-//! On a volume of stamped documents, as `format 8 2 3` makes it, an `ingest` is given the seconds of its stamp, which are
-//! past those of each document before, as in `ingest a 1000`; elsewhere it is given none. There a `between 0 1000`
+//! On a volume of stamped documents, as `format 8 2 3` makes it, an `ingest` is given the seconds of its stamp, which
+//! are past those of each document before, as in `ingest a 1000`; elsewhere it is given none. There a `between 0 1000`
 //! searches the documents whose stamps lie in that span of time: `0 a 1000 11` and `1 found`.
 //!
 //! A `find`, a `between` and a `receipt` make their text before the first byte goes out, and a `lookup` checks the
-//! document whole before that. What is taken from the source is at most as long as a body may be, and in a `check` as the
-//! text of a receipt. A `receipt` settles the volume first, and a `check` writes nothing at all; what the one has put out
-//! the other accepts from then on (`receipts_are_ready`).
+//! document whole before that. What is taken from the source is at most as long as a body may be, and in a `check` as
+//! the text of a receipt. A `receipt` settles the volume first, and a `check` writes nothing at all; what the one has
+//! put out the other accepts from then on (`receipts_are_ready`).
 //!
 //! The commands that leave the device alone, `replay` and `exercise`, are in `record_top`, which also says what a crash
 //! leaves of each, and which documents stand behind it: the words for that are here, in specs/Steadiness.antt.
 //!
-//! Stands on `ingest_engine` and `recovery_engine`, which write, on `record_query` and `time_index`, which search and look
-//! up, on `volume_audit`, on `receipt_text` and `receipt_check`, on `command_laws`, on `command_line`,
-//! which puts out lines and texts, and on `host_ports`. Begin with `find.rt` and specs/Finding.antt.
+//! Stands on `ingest_engine` and `recovery_engine`, which write, on `record_query` and `time_index`, which search and
+//! look up, on `volume_audit`, on `receipt_text` and `receipt_check`, on `command_laws`, on `command_line`, which puts
+//! out lines and texts, and on `host_ports`. Begin with `find.rt` and specs/Finding.antt.
 #![tactic(auto)]
 
 mod audit;

@@ -25,33 +25,10 @@ mod sweeps;
 mod terms;
 mod world;
 
-use rows::{Tally, judge};
-use std::rt::{Env, Files};
-use std::{env, fs, io};
+use row_files::judge_files;
+use rows::Rows;
+use std::io;
 
 fn main(rt: HostRuntime) -> io::Result<()> {
-    let mut all = env::args(&rt)?;
-    let _ = all.next();
-    let files: Vec<String> = all.collect(rt.alloc())?;
-    for file in &files {
-        judge_file(&rt, file.as_str())?;
-    }
-    Ok(())
-}
-
-/// Judges the rows of a file, and prints what came of them. A row that does not agree is an error.
-fn judge_file(rt: &(impl Env + Files + Print + AllocGlobal), file: &str) -> io::Result<()> {
-    let text = fs::read_to_string(rt, file)?;
-    let Ok(Tally { rows, wrong }) = judge(rt.alloc(), text.as_str()) else {
-        return Err(io::Error::from(io::ErrorKind::OutOfMemory));
-    };
-    for line in &wrong {
-        println!(rt; "{file}: {line}")?;
-    }
-    let agree = rows.saturating_sub(wrong.len());
-    println!(rt; "{file}: {agree} of {rows} rows agree")?;
-    if agree < rows {
-        return Err(io::Error::from(io::ErrorKind::InvalidData));
-    }
-    Ok(())
+    judge_files::<Rows>(&rt)
 }

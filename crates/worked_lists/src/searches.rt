@@ -5,7 +5,7 @@ ghost use Rattle.worm_memory.specs.Device.{memory_of};
 use crate::answer::{Answer, of_entry};
 use crate::laying::Keys;
 use cell_types::Fault;
-use jump_block::KeptFronts;
+use jump_block::{Entry, KeptFronts};
 use jump_index::{Bounds, find_geq, find_geq_from_kept};
 use worm_device::{Device, Direct, View};
 use worm_memory::MemoryDevice;
@@ -31,7 +31,15 @@ pub fn find(device: &mut MemoryDevice, list: List, key: u32) -> Answer {
     if !list.is_within(device.cells()) {
         return Answer::NoAsk;
     }
-    of_entry(find_geq(&mut Direct::new(device), list.head, key, list.bounds))
+    of_entry(find_in(&mut Direct::new(device), list, key))
+}
+
+/// The same over a view.
+fn find_in<V: View>(view: &mut V, list: List, key: u32) -> Result<Option<Entry>, Fault>
+    requires head { list.head + 256 ≤ (V.seen view.old).cells }
+    requires edge { list.bounds.edge ≤ (V.seen view.old).cells }
+{
+    find_geq(view, list.head, key, list.bounds)
 }
 
 /// The first of some keys that is not the answer both to itself and to what lies behind the key before it; before the

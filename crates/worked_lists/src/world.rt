@@ -14,6 +14,7 @@ use crate::terms::{Question, ask, ask_whether_it_has};
 use cell_pool::Pool;
 use cell_types::{Cell, MAX_CELLS};
 use jump_index::Bounds;
+use row_files::{address_and_cell, counted, number};
 use std::alloc::{AllocError, Global};
 use worm_device::Device;
 use worm_memory::MemoryDevice;
@@ -290,38 +291,12 @@ fn of_number(number: Option<u32>) -> Answer {
 fn numbers_of(alloc: Global, text: &str) -> Result<Option<Vec<u32>>, AllocError> {
     let mut all = Vec::new(alloc);
     for word in text.split_whitespace() {
-        let Ok(number) = word.parse() else {
+        let Some(one) = number(word) else {
             return Ok(None);
         };
-        all.push(number)?;
+        all.push(one)?;
     }
     Ok(Some(all))
-}
-
-/// A number, and the text behind it.
-fn counted(text: &str) -> Option<(u32, &str)> {
-    let (number, text) = text.split_once(' ')?;
-    Some((number.parse().ok()?, text))
-}
-
-/// An address, and the cell of 32 hexadecimal digits there, between which there may be underscores for the reader.
-fn address_and_cell(text: &str) -> Option<(u32, Cell)> {
-    let (at, text) = counted(text)?;
-    let mut digits = 0_u32;
-    let mut value = 0_u128;
-    for digit in text.chars() {
-        if digit != '_' {
-            value = value
-                .checked_mul(16)?
-                .checked_add(u128::from(digit.to_digit(16)?))?;
-            digits = digits.saturating_add(1);
-        }
-    }
-    if digits != 32 {
-        return None;
-    }
-    let cell = Cell::from_bytes(value.to_be_bytes())?;
-    Some((at, cell))
 }
 
 /// The question of a line: the horizon, the list's number and the slot; and the words behind them.

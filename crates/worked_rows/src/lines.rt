@@ -6,7 +6,7 @@
 //!
 //! A line of these that cannot be what it says comes as it is, and so fails its row: a block in a block, one that is never
 //! closed, an `end` of none, numbers that are none, a name that has no piece.
-use crate::parts::two_numbers;
+use row_files::two_numbers;
 use std::alloc::{AllocError, Global};
 
 /// A line as it is carried out, and its number in the file.
@@ -47,18 +47,30 @@ pub fn written_out(alloc: Global, text: &str) -> Result<Vec<Line>, AllocError> {
         pieces: Vec::new(alloc),
         open: None,
     };
-    for (at, text) in text.lines().enumerate() {
-        if !text.trim().is_empty() && !text.starts_with("--") {
-            all.take(alloc, at.saturating_add(1), text)?;
-        }
-    }
-    if let Some(block) = all.open.take() {
-        all.write(alloc, block.number, block.text)?;
-    }
+    all.take_all(alloc, text)?;
+    all.give_up(alloc)?;
     Ok(all.written)
 }
 
 impl<'a> Lines<'a> {
+    /// Takes the lines of a text.
+    fn take_all(&mut self, alloc: Global, text: &'a str) -> Result<(), AllocError> {
+        for (at, line) in text.lines().enumerate() {
+            if !line.trim().is_empty() && !line.starts_with("--") {
+                self.take(alloc, at.saturating_add(1), line)?;
+            }
+        }
+        Ok(())
+    }
+
+    /// Puts the line that opened a block behind the others, where that is never closed.
+    fn give_up(&mut self, alloc: Global) -> Result<(), AllocError> {
+        match self.open.take() {
+            Some(block) => self.write(alloc, block.number, block.text),
+            None => Ok(()),
+        }
+    }
+
     /// Takes the next line of the text.
     fn take(&mut self, alloc: Global, number: usize, text: &'a str) -> Result<(), AllocError> {
         if text == "end" {

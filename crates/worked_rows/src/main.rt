@@ -2,6 +2,7 @@
 //!
 //! Each argument names a file of rows, which lies where the program runs. It carries out their lines, by `record_top::run`,
 //! and prints a line a file: how many rows agree; before it, each row that does not, with the first line that is not so.
+//! It ends with an error where a row does not agree.
 //!
 //!     row a_volume_has_so_many_slots
 //!     device 400
@@ -21,31 +22,10 @@ mod rows;
 mod steps;
 mod world;
 
-use rows::{Tally, judge};
-use std::rt::{Env, Files};
-use std::{env, fs, io};
+use row_files::judge_files;
+use rows::Rows;
+use std::io;
 
 fn main(rt: HostRuntime) -> io::Result<()> {
-    let mut all = env::args(&rt)?;
-    let _ = all.next();
-    let files: Vec<String> = all.collect(rt.alloc())?;
-    for file in &files {
-        judge_file(&rt, file.as_str())?;
-    }
-    Ok(())
-}
-
-/// Judges the rows of a file, and prints what came of them.
-fn judge_file(rt: &(impl Env + Files + Print + AllocGlobal), file: &str) -> io::Result<()> {
-    let text = fs::read_to_string(rt, file)?;
-    let Ok(Tally { rows, wrong }) = judge(rt.alloc(), text.as_str()) else {
-        return Err(io::Error::from(io::ErrorKind::OutOfMemory));
-    };
-    for line in &wrong {
-        println!(rt; "{file}: {line}")?;
-    }
-    println!(rt;
-        "{file}: {} of {rows} rows agree",
-        rows.saturating_sub(wrong.len())
-    )
+    judge_files::<Rows>(&rt)
 }

@@ -8,32 +8,30 @@ use crate::lines::written_out;
 use crate::steps::{Act, Step, step_of};
 use crate::world::World;
 use cell_types::{Cell, MAX_CELLS};
+use row_files::{Judge, Tally};
 use std::alloc::{AllocError, Global};
 use worm_device::Device;
 
-/// How many rows there are, and what is said of those that do not agree.
-#[derive(Drop)]
-pub struct Tally {
-    pub rows: usize,
-    pub wrong: Vec<String>,
-}
+/// Commands over devices in memory, and what they must answer.
+pub struct Rows;
 
-/// Carries out the rows of a text.
-pub fn judge(alloc: Global, text: &str) -> Result<Tally, AllocError> {
-    let lines = written_out(alloc, text)?;
-    let mut rows: usize = 0;
-    let mut wrong = Vec::new(alloc);
-    let mut row = Row::new(alloc);
-    for line in &lines {
-        if let Some(name) = line.text.as_str().strip_prefix("row ") {
-            rows = rows.saturating_add(1);
-            push(&mut wrong, row.begin(alloc, name)?)?;
-        } else {
-            row.carry_out(alloc, line.number, line.text.as_str())?;
+impl Judge for Rows {
+    fn judge(alloc: Global, text: &str) -> Result<Tally, AllocError> {
+        let lines = written_out(alloc, text)?;
+        let mut rows: usize = 0;
+        let mut wrong = Vec::new(alloc);
+        let mut row = Row::new(alloc);
+        for line in &lines {
+            if let Some(name) = line.text.as_str().strip_prefix("row ") {
+                rows = rows.saturating_add(1);
+                push(&mut wrong, row.begin(alloc, name)?)?;
+            } else {
+                row.carry_out(alloc, line.number, line.text.as_str())?;
+            }
         }
+        push(&mut wrong, row.begin(alloc, "")?)?;
+        Ok(Tally { rows, wrong })
     }
-    push(&mut wrong, row.begin(alloc, "")?)?;
-    Ok(Tally { rows, wrong })
 }
 
 /// Puts a line behind these, if there is one.

@@ -1,9 +1,7 @@
 //! What a line of a row asks for. docs/ROWS.md has each kind of line, in the order of this page.
-use crate::parts::{
-    address_and_cell, counted, is_hexadecimal, moment_and_rest, number, push_hexadecimal,
-    two_numbers,
-};
+use crate::parts::{is_hexadecimal, moment_and_rest, push_hexadecimal};
 use cell_types::Cell;
+use row_files::{address_and_cell, counted, number, two_numbers};
 use std::alloc::{AllocError, Global};
 use worm_memory::{Change, Moment};
 

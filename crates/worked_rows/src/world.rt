@@ -2,11 +2,11 @@
 ghost use Rattle.std.specs.Prelude.{◌≤◌};
 ghost use Rattle.cell_types.specs.declared.geometry.TheConstants.{MAX_CELLS};
 
-use crate::parts::number;
 use crate::steps::{Answer, Bytes, Plan};
 use cell_types::{Cell, NoMemory};
 use host_ports::{MemorySink, MemorySource};
 use record_top::{run, run_two};
+use row_files::number;
 use std::alloc::{AllocError, Global};
 use std::fmt::Display;
 use worm_device::{Device, Written};
@@ -267,21 +267,32 @@ fn lack(_: NoMemory) -> AllocError {
 
 /// The words of a command, between bars, the last one so many times.
 fn words_of(alloc: Global, text: &str, times: u32) -> Result<Vec<String>, AllocError> {
-    let (before, last) = match text.rsplit_once('|') {
-        Some((before, last)) => (Some(before), last),
-        None => (None, text),
-    };
     let mut all = Vec::new(alloc);
-    if let Some(before) = before {
-        for word in before.split('|') {
-            all.push(String::from_str(alloc, word)?)?;
+    let last = match text.rsplit_once('|') {
+        Some((before, last)) => {
+            push_words(alloc, before, &mut all)?;
+            last
         }
+        None => text,
+    };
+    all.push(repeated(alloc, last, times)?)?;
+    Ok(all)
+}
+
+/// Puts the words of a text, between bars, behind others.
+fn push_words(alloc: Global, text: &str, all: &mut Vec<String>) -> Result<(), AllocError> {
+    for word in text.split('|') {
+        all.push(String::from_str(alloc, word)?)?;
     }
-    let mut word = String::new(alloc);
+    Ok(())
+}
+
+/// A text so many times.
+fn repeated(alloc: Global, text: &str, times: u32) -> Result<String, AllocError> {
+    let mut all = String::new(alloc);
     for _ in 0..times {
-        word.push_str(last)?;
+        all.push_str(text)?;
     }
-    all.push(word)?;
     Ok(all)
 }
 

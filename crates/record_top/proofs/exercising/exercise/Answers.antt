@@ -1,6 +1,5 @@
 -- The events are of the grammar; and each exit, by how far the exercise came.
 use Rattle.std.proofs.Common.{List, ap, length, refl, subst, sym, ◌∙◌, ℕ, arith}
-use Rattle.host_ports.specs.Sinks.{Gets, PutsPart}
 use Rattle.script_events.specs.Events.{AreEventsOn}
 use Rattle.script_events.specs.declared.event.Event.{Event}
 use Rattle.script_replies.specs.declared.reply.Reply.{Reply}
@@ -13,6 +12,7 @@ use Rattle.volume_exercise.proofs.EventsOn.{exercise_events_on}
 use Rattle.volume_exercise.proofs.Ending.{exercise_refused, exercise_untroubled}
 use Rattle.volume_exercise.proofs.Exercised.{replies_count}
 use Rattle.volume_exercise.proofs.Leaving.{exercise_whole}
+use Rattle.volume_commands.proofs.Reports.{gets_as, part_as}
 use Rattle.record_top.proofs.exercising.exercise.Goals as goal
 
 pub replay-requires-clause-cells : goal.replay-requires-clause-cells
@@ -31,7 +31,8 @@ text_of-requires-clause-all g c =
     let replies = c.in_ok-replies.replies.items in
     ap (λ (l : List Reply). length l) c.deref-3.ensures.value
     ∙ replies_count c.args.documents replies from to
-    (subst (λ (l : List Event). IsWorld l replies from to) (c.deref.ensures.value ∙ c.in_ok-events.ensures) c.in_ok-replies.ensures)
+    (subst (λ (l : List Event). IsWorld l replies from to)
+    (c.deref.ensures.value ∙ c.in_ok-events.ensures) c.in_ok-replies.ensures)
 
 pub returns-in_err-events : goal.returns-in_err-events
 returns-in_err-events g c = unmade refl refl
@@ -68,8 +69,7 @@ returns-in_default-put_all g c =
     let whole = exercise_whole c.plain_is_done.ensures c.acknowledged_are_returned.ensures c.turns_are_marked.ensures n
     c.requires.most from to c.requires.new replies world first (c.the_count_is_recorded.ensures c.replay.new.device) in
     untold replies world first whole.0 refl
-    (subst (λ (l : List ℕ). PutsPart l (g.K.Sink.state c.args.sink.now) (g.K.Sink.state c.put_all.new.sink))
-    (c.as_bytes.ensures.value ∙ c.in_ok-text.ensures ∙ ap (counted_text n) c.deref-3.ensures.value ∙ whole.1)
+    (part_as (c.as_bytes.ensures.value ∙ c.in_ok-text.ensures ∙ ap (counted_text n) c.deref-3.ensures.value ∙ whole.1)
     c.in_default-put_all.ensures.part)
 
 -- the lines were put out
@@ -86,6 +86,5 @@ returns g c =
     let whole = exercise_whole c.plain_is_done.ensures c.acknowledged_are_returned.ensures c.turns_are_marked.ensures n
     c.requires.most from to c.requires.new replies world first (c.the_count_is_recorded.ensures c.replay.new.device) in
     told replies world first whole.0 refl
-    (subst (λ (l : List ℕ). Gets (g.K.Sink.state c.args.sink.now).held (g.K.Sink.state c.put_all.new.sink).held l)
-    (c.as_bytes.ensures.value ∙ c.in_ok-text.ensures ∙ ap (counted_text n) c.deref-3.ensures.value ∙ whole.1)
+    (gets_as (g.K.Sink.state c.args.sink.now) (g.K.Sink.state c.put_all.new.sink) (c.as_bytes.ensures.value ∙ c.in_ok-text.ensures ∙ ap (counted_text n) c.deref-3.ensures.value ∙ whole.1)
     c.in-Ok.ensures.whole)

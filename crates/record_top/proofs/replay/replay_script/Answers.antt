@@ -2,11 +2,11 @@
 use Rattle.std.proofs.Common.{ℕ, List, Ok, Err, refl, subst, ◌∙◌}
 use Rattle.cell_types.specs.declared.refusal.Refusal.TheVariants.{NoMemory, SinkFault}
 use Rattle.cell_types.proofs.Passed.{handed}
-use Rattle.host_ports.specs.Sinks.{Gets, PutsPart}
 use Rattle.script_events.specs.Scripts.{IsScript, ReadScriptEnds}
 use Rattle.record_top.specs.Replaying.{replayed, unread, untaken}
 use Rattle.volume_commands.specs.Taking.{refusal_of_body_fault}
 use Rattle.volume_commands.proofs.Taken.{is_body}
+use Rattle.volume_commands.proofs.Reports.{gets_as, part_as}
 use Rattle.record_top.proofs.replay.replay_script.Goals as goal
 
 -- what was read is within the limits
@@ -28,7 +28,8 @@ returns-in_err-script g c =
     let refusal = c.in_err-script.field-0.0 in
     rw (handed c.from_residual-in_err-script.result refusal c.from_residual-in_err-script.ensures.1)
     (unread c.in_ok-text.text.items refusal (is_body body.0) body.1 body.2
-    (subst (λ (t : List ℕ). ReadScriptEnds t (Err refusal)) c.deref.ensures.value c.in_err-script.ensures) refl refl refl)
+    (subst (λ (t : List ℕ). ReadScriptEnds t (Err refusal)) c.deref.ensures.value c.in_err-script.ensures)
+    refl refl refl)
 
 -- no memory was to be had to replay it
 pub returns-in_err-lines : goal.returns-in_err-lines
@@ -49,8 +50,7 @@ returns-in_err-put_text g c =
     rw (handed failed.result SinkFault failed.ensures.1)
     (replayed c.in_ok-text.text.items script (Ok told.0) (is_body body.0) body.1 body.2
     (subst (λ (t : List ℕ). IsScript t script) c.deref.ensures.value c.in_ok-script.ensures) told.1 refl
-    (subst (λ (t : List ℕ). PutsPart t (g.K.Sink.state c.args.sink.now) (g.K.Sink.state c.put_text.new.sink))
-    (c.as_bytes.ensures.value ∙ told.2) c.in_err-put_text.ensures.part))
+    (part_as (c.as_bytes.ensures.value ∙ told.2) c.in_err-put_text.ensures.part))
 
 -- the replies were put out
 pub returns : goal.returns
@@ -60,5 +60,4 @@ returns g c =
     let told = c.in_ok-lines.ensures in
     replayed c.in_ok-text.text.items script (Ok told.0) (is_body body.0) body.1 body.2
     (subst (λ (t : List ℕ). IsScript t script) c.deref.ensures.value c.in_ok-script.ensures) told.1 refl
-    (subst (λ (t : List ℕ). Gets (g.K.Sink.state c.args.sink.now).held (g.K.Sink.state c.put_text.new.sink).held t)
-    (c.as_bytes.ensures.value ∙ told.2) c.in_ok-put_text.ensures.whole)
+    (gets_as (g.K.Sink.state c.args.sink.now) (g.K.Sink.state c.put_text.new.sink) (c.as_bytes.ensures.value ∙ told.2) c.in_ok-put_text.ensures.whole)

@@ -2,7 +2,7 @@
 use Rattle.std.proofs.Common.{Err, List, Ok, refl, subst, ◌∙◌, ℕ}
 use Rattle.cell_types.specs.declared.refusal.Refusal.TheVariants.{NoMemory, SinkFault}
 use Rattle.cell_types.proofs.Passed.{handed}
-use Rattle.host_ports.specs.Sinks.{Gets, PutsPart}
+use Rattle.volume_commands.proofs.Reports.{gets_as, part_as}
 use Rattle.volume_commands.proofs.audit.audit_volume.Goals as goal
 
 -- the audit was ended
@@ -28,7 +28,7 @@ returns-in_err-put_text g c =
       answer = Ok c.in_ok-report.report;
       audits = c.in_ok-report.ensures;
       source = refl;
-      tells = subst (λ (t : List ℕ). PutsPart t (g.K.Sink.state c.args.sink.now) (g.K.Sink.state c.put_text.new.sink)) text
+      tells = part_as text
           c.in_err-put_text.ensures.part;
     })
 
@@ -40,6 +40,6 @@ returns g c =
       answer = Ok c.in_ok-report.report;
       audits = c.in_ok-report.ensures;
       source = refl;
-      tells = subst (λ (t : List ℕ). Gets (g.K.Sink.state c.args.sink.now).held (g.K.Sink.state c.put_text.new.sink).held t) text
+      tells = gets_as (g.K.Sink.state c.args.sink.now) (g.K.Sink.state c.put_text.new.sink) text
           c.in_ok-put_text.ensures.whole;
     }

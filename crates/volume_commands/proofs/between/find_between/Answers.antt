@@ -2,8 +2,8 @@
 use Rattle.std.proofs.Common.{ℕ, List, Ok, Err, refl, subst, ap, ◌∙◌}
 use Rattle.cell_types.specs.declared.refusal.Refusal.TheVariants.{NoMemory, SinkFault}
 use Rattle.cell_types.proofs.Passed.{handed}
-use Rattle.host_ports.specs.Sinks.{Gets, PutsPart}
 use Rattle.volume_commands.specs.Spanning.{span_text}
+use Rattle.volume_commands.proofs.Reports.{gets_as, part_as}
 use Rattle.volume_commands.proofs.between.find_between.Goals as goal
 
 -- the search was ended
@@ -29,8 +29,7 @@ returns-in_err-put_text g c =
       answer = Ok c.in_ok-matches.matches;
       finds = c.in_ok-matches.ensures;
       source = refl;
-      tells = subst (λ (t : List ℕ). PutsPart t (g.K.Sink.state c.args.sink.now) (g.K.Sink.state c.put_text.new.sink))
-          text c.in_err-put_text.ensures.part;
+      tells = part_as text c.in_err-put_text.ensures.part;
     })
 
 -- the text was put out
@@ -41,6 +40,5 @@ returns g c =
       answer = Ok c.in_ok-matches.matches;
       finds = c.in_ok-matches.ensures;
       source = refl;
-      tells = subst (λ (t : List ℕ). Gets (g.K.Sink.state c.args.sink.now).held (g.K.Sink.state c.put_text.new.sink).held t)
-          text c.in_ok-put_text.ensures.whole;
+      tells = gets_as (g.K.Sink.state c.args.sink.now) (g.K.Sink.state c.put_text.new.sink) text c.in_ok-put_text.ensures.whole;
     }

@@ -2,7 +2,6 @@
 use Rattle.std.proofs.Common.{ℕ, List, Ok, Err, refl, subst, ◌∙◌}
 use Rattle.cell_types.specs.declared.refusal.Refusal.TheVariants.{NoMemory, SinkFault}
 use Rattle.cell_types.proofs.Passed.{handed}
-use Rattle.host_ports.specs.Sinks.{Gets, PutsPart}
 use Rattle.receipt_text.specs.Form.{refusal_of_receipt}
 use Rattle.receipt_text.specs.Listed.{AreListed}
 use Rattle.receipt_text.specs.Reading.{ReadReceiptEnds}
@@ -10,6 +9,7 @@ use Rattle.receipt_check.specs.Checks.{refusal_of_check}
 use Rattle.volume_commands.specs.Checking.{unread, untaken}
 use Rattle.volume_commands.specs.Taking.{refusal_of_body_fault}
 use Rattle.volume_commands.proofs.Checks.{checked_as_read}
+use Rattle.volume_commands.proofs.Reports.{gets_as, part_as}
 use Rattle.volume_commands.proofs.check.check_source.Goals as goal
 
 -- no text was taken
@@ -25,10 +25,12 @@ pub returns-in_err-receipt : goal.returns-in_err-receipt
 returns-in_err-receipt g c =
     let body = c.in_ok-text.ensures.body in
     let fault = c.in_err-receipt.field-0.0 in
-    rw (handed c.from_residual-in_err-receipt.result (refusal_of_receipt fault) c.from_residual-in_err-receipt.ensures.1)
+    rw (handed c.from_residual-in_err-receipt.result (refusal_of_receipt fault)
+    c.from_residual-in_err-receipt.ensures.1)
     (unread c.in_ok-text.text.items fault body.0 body.1 body.2
     (subst (λ (n : ℕ). ReadReceiptEnds n c.in_ok-text.text.items (Err fault)) c.cells.ensures.cells
-    (subst (λ (t : List ℕ). ReadReceiptEnds c.cells.result t (Err fault)) c.deref.ensures.value c.in_err-receipt.ensures)) refl refl
+    (subst (λ (t : List ℕ). ReadReceiptEnds c.cells.result t (Err fault)) c.deref.ensures.value
+    c.in_err-receipt.ensures)) refl refl
     refl)
 
 -- the cells of the receipt are cells of the device
@@ -46,9 +48,11 @@ returns-in_err-checked g c =
     let text = c.in_ok-text.text.items in
     let r = c.in_ok-receipt.receipt in
     let refused = c.in_err-checked.field-0.0 in
-    rw (handed c.from_residual-in_err-checked.result (refusal_of_check refused) c.from_residual-in_err-checked.ensures.1)
+    rw (handed c.from_residual-in_err-checked.result (refusal_of_check refused)
+    c.from_residual-in_err-checked.ensures.1)
     (checked_as_read _ _ _ text c.cells.result r (Err refused) c.cells.ensures.cells
-    (subst (λ (t : List ℕ). ReadReceiptEnds c.cells.result t (Ok r)) c.deref.ensures.value c.in_ok-receipt.ensures) body.0 body.1
+    (subst (λ (t : List ℕ). ReadReceiptEnds c.cells.result t (Ok r)) c.deref.ensures.value c.in_ok-receipt.ensures)
+    body.0 body.1
     body.2 c.in_err-checked.ensures (refl, refl))
 
 -- no memory was to be had for the line
@@ -59,7 +63,8 @@ returns-in_err-line g c =
     let r = c.in_ok-receipt.receipt in
     rw (handed c.from_residual-in_err-line.result NoMemory c.from_residual-in_err-line.ensures.1)
     (checked_as_read _ _ _ text c.cells.result r (Ok c.in_ok-checked.checked) c.cells.ensures.cells
-    (subst (λ (t : List ℕ). ReadReceiptEnds c.cells.result t (Ok r)) c.deref.ensures.value c.in_ok-receipt.ensures) body.0 body.1
+    (subst (λ (t : List ℕ). ReadReceiptEnds c.cells.result t (Ok r)) c.deref.ensures.value c.in_ok-receipt.ensures)
+    body.0 body.1
     body.2 c.in_ok-checked.ensures refl)
 
 -- the sink failed
@@ -71,10 +76,10 @@ returns-in_err-put_text g c =
     let failed = c.from_residual-in_err-put_text in
     rw (handed failed.result SinkFault failed.ensures.1)
     (checked_as_read _ _ _ text c.cells.result r (Ok c.in_ok-checked.checked) c.cells.ensures.cells
-    (subst (λ (t : List ℕ). ReadReceiptEnds c.cells.result t (Ok r)) c.deref.ensures.value c.in_ok-receipt.ensures) body.0 body.1
+    (subst (λ (t : List ℕ). ReadReceiptEnds c.cells.result t (Ok r)) c.deref.ensures.value c.in_ok-receipt.ensures)
+    body.0 body.1
     body.2 c.in_ok-checked.ensures
-    (subst (λ (t : List ℕ). PutsPart t (g.K.Sink.state c.args.sink.now) (g.K.Sink.state c.put_text.new.sink))
-    (c.deref-2.ensures.value ∙ c.in_ok-line.ensures) c.in_err-put_text.ensures.part))
+    (part_as (c.deref-2.ensures.value ∙ c.in_ok-line.ensures) c.in_err-put_text.ensures.part))
 
 -- the line was put out
 pub returns : goal.returns
@@ -83,7 +88,7 @@ returns g c =
     let text = c.in_ok-text.text.items in
     let r = c.in_ok-receipt.receipt in
     checked_as_read _ _ _ text c.cells.result r (Ok c.in_ok-checked.checked) c.cells.ensures.cells
-    (subst (λ (t : List ℕ). ReadReceiptEnds c.cells.result t (Ok r)) c.deref.ensures.value c.in_ok-receipt.ensures) body.0 body.1
+    (subst (λ (t : List ℕ). ReadReceiptEnds c.cells.result t (Ok r)) c.deref.ensures.value c.in_ok-receipt.ensures)
+    body.0 body.1
     body.2 c.in_ok-checked.ensures
-    (subst (λ (t : List ℕ). Gets (g.K.Sink.state c.args.sink.now).held (g.K.Sink.state c.put_text.new.sink).held t)
-    (c.deref-2.ensures.value ∙ c.in_ok-line.ensures) c.in_ok-put_text.ensures.whole)
+    (gets_as (g.K.Sink.state c.args.sink.now) (g.K.Sink.state c.put_text.new.sink) (c.deref-2.ensures.value ∙ c.in_ok-line.ensures) c.in_ok-put_text.ensures.whole)

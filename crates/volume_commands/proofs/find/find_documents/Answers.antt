@@ -1,14 +1,13 @@
 -- Each exit, by how far the command came.
-use Rattle.std.proofs.Common.{arith, ℕ, List, Ok, Err, map, refl, ap, ◌∙◌, subst}
+use Rattle.std.proofs.Common.{arith, Ok, Err, map, refl, ap, ◌∙◌}
 use Rattle.std.specs.String.{string_bytes}
 use Rattle.cell_types.specs.declared.refusal.Refusal.TheVariants.{NoMemory, SinkFault}
 use Rattle.cell_types.proofs.Passed.{handed}
-use Rattle.host_ports.specs.Sinks.{Gets, PutsPart}
-use Rattle.record_query.specs.Finding.{Searches}
-use Rattle.volume_commands.specs.Finding.{find_text, searched, unruled}
+use Rattle.volume_commands.specs.Finding.{find_text, unruled}
 use Rattle.volume_commands.specs.Ports.{ports_of}
 use Rattle.std.proofs.lemmas.List.{length-map}
-use Rattle.volume_commands.proofs.Finds.{kept_found, not_searched, some_term}
+use Rattle.volume_commands.proofs.Finds.{found, not_searched, some_term}
+use Rattle.volume_commands.proofs.Reports.{gets_as, part_as}
 use Rattle.volume_commands.proofs.find.find_documents.Goals as goal
 
 -- cell 0 told no rule
@@ -42,60 +41,31 @@ find-requires g c =
 -- the search was ended
 pub returns-in_err-matches : goal.returns-in_err-matches
 returns-in_err-matches g c =
-    let device = g.D.Device.state c.args.device.now in
-    let mid = g.D.Device.state c.rule_on.new.device in
-    let later = g.D.Device.state c.find.new.device in
     let refusal = c.in_err-matches.field-0.0 in
     rw (handed c.from_residual-in_err-matches.result refusal c.from_residual-in_err-matches.ensures.1)
-    (searched mid c.in_ok-rule.rule c.in_ok-terms.terms.items (Err refusal) c.in_ok-rule.ensures c.in_ok-terms.ensures
-    (subst (λ (terms : List (List ℕ)). Searches terms mid later (Err refusal)) c.deref.ensures.value
-    c.in_err-matches.ensures)
-    tt refl (refl, refl))
+    (found (Err refusal) c.in_ok-rule.ensures c.in_ok-terms.ensures c.deref.ensures.value c.in_err-matches.ensures refl
+    (refl, refl))
 
 -- no memory was to be had for the text
 pub returns-in_err-text : goal.returns-in_err-text
 returns-in_err-text g c =
-    let device = g.D.Device.state c.args.device.now in
-    let mid = g.D.Device.state c.rule_on.new.device in
-    let later = g.D.Device.state c.find.new.device in
-    let terms = c.in_ok-terms.terms.items in
-    let matches = c.in_ok-matches.matches in
-    let searches : Searches terms mid later (Ok matches) =
-    subst (λ (t : List (List ℕ)). Searches t mid later (Ok matches)) c.deref.ensures.value c.in_ok-matches.ensures in
     rw (handed c.from_residual-in_err-text.result NoMemory c.from_residual-in_err-text.ensures.1)
-    (searched mid c.in_ok-rule.rule terms (Ok matches) c.in_ok-rule.ensures c.in_ok-terms.ensures searches
-    (kept_found terms device mid later (Ok matches) c.in_ok-rule.ensures.called searches.ends) refl refl)
+    (found (Ok c.in_ok-matches.matches) c.in_ok-rule.ensures c.in_ok-terms.ensures c.deref.ensures.value
+    c.in_ok-matches.ensures refl refl)
 
 -- the sink failed
 pub returns-in_err-put_text : goal.returns-in_err-put_text
 returns-in_err-put_text g c =
-    let device = g.D.Device.state c.args.device.now in
-    let mid = g.D.Device.state c.rule_on.new.device in
-    let later = g.D.Device.state c.find.new.device in
-    let terms = c.in_ok-terms.terms.items in
-    let matches = c.in_ok-matches.matches in
-    let searches : Searches terms mid later (Ok matches) =
-    subst (λ (t : List (List ℕ)). Searches t mid later (Ok matches)) c.deref.ensures.value c.in_ok-matches.ensures in
     let failed = c.from_residual-in_err-put_text in
     let text = c.deref-3.ensures.value ∙ c.in_ok-text.ensures ∙ ap find_text c.deref-2.ensures.value in
     rw (handed failed.result SinkFault failed.ensures.1)
-    (searched mid c.in_ok-rule.rule terms (Ok matches) c.in_ok-rule.ensures c.in_ok-terms.ensures searches
-    (kept_found terms device mid later (Ok matches) c.in_ok-rule.ensures.called searches.ends) refl
-    (subst (λ (t : List ℕ). PutsPart t (g.K.Sink.state c.args.sink.now) (g.K.Sink.state c.put_text.new.sink)) text
-    c.in_err-put_text.ensures.part))
+    (found (Ok c.in_ok-matches.matches) c.in_ok-rule.ensures c.in_ok-terms.ensures c.deref.ensures.value
+    c.in_ok-matches.ensures refl (part_as text c.in_err-put_text.ensures.part))
 
 -- the text was put out
 pub returns : goal.returns
 returns g c =
-    let device = g.D.Device.state c.args.device.now in
-    let mid = g.D.Device.state c.rule_on.new.device in
-    let later = g.D.Device.state c.find.new.device in
-    let terms = c.in_ok-terms.terms.items in
-    let matches = c.in_ok-matches.matches in
-    let searches : Searches terms mid later (Ok matches) =
-    subst (λ (t : List (List ℕ)). Searches t mid later (Ok matches)) c.deref.ensures.value c.in_ok-matches.ensures in
     let text = c.deref-3.ensures.value ∙ c.in_ok-text.ensures ∙ ap find_text c.deref-2.ensures.value in
-    searched mid c.in_ok-rule.rule terms (Ok matches) c.in_ok-rule.ensures c.in_ok-terms.ensures searches
-    (kept_found terms device mid later (Ok matches) c.in_ok-rule.ensures.called searches.ends) refl
-    (subst (λ (t : List ℕ). Gets (g.K.Sink.state c.args.sink.now).held (g.K.Sink.state c.put_text.new.sink).held t) text
-    c.in_ok-put_text.ensures.whole)
+    found (Ok c.in_ok-matches.matches) c.in_ok-rule.ensures c.in_ok-terms.ensures c.deref.ensures.value
+    c.in_ok-matches.ensures refl
+    (gets_as (g.K.Sink.state c.args.sink.now) (g.K.Sink.state c.put_text.new.sink) text c.in_ok-put_text.ensures.whole)

@@ -11,4 +11,5 @@ loop-found-preserved c =
     c.in_ok-push_document_line.ensures
     ∙ ap (λ (id : List ℕ). c.loop-found.text.items ++ document_line found.slot id found.bytes) c.bytes.ensures
     ∙ ap (λ (lines : List ℕ). lines ++ match_line found) c.loop-found.invariant
-    ∙ sym (lines_more match_line c.args.matches.now c.loop-found.found-index c.found-item.result (omega arith) c.found-item.is)
+    ∙ sym (lines_more match_line c.args.matches.now c.loop-found.found-index c.found-item.result
+    (omega arith) c.found-item.is)

@@ -24,7 +24,8 @@ returns-in_err-slot g c =
     let body = c.in_ok-body.ensures.body in
     let refusal = c.in_err-slot.field-0.0 in
     rw (handed c.from_residual-in_err-slot.result refusal c.from_residual-in_err-slot.ensures.1)
-    (taken c.in_ok-body.body.items (Err refusal) (c.is_identifier.ensures.0 (search rules)) (is_body body.0) body.1 body.2
+    (taken c.in_ok-body.body.items (Err refusal) (c.is_identifier.ensures.0 (search rules))
+    (is_body body.0) body.1 body.2
     (subst (λ (b : List ℕ). Ingests c.args.id.now c.args.stamp b device later (Err refusal)) c.deref.ensures.value
     c.in_err-slot.ensures)
     (refl, refl))
@@ -39,7 +40,8 @@ returns-in_err-put_slot_line g c =
     let failed = c.from_residual-in_err-put_slot_line in
     rw (handed failed.result SinkFault failed.ensures.1)
     (taken c.in_ok-body.body.items (Ok slot) (c.is_identifier.ensures.0 (search rules)) (is_body body.0) body.1 body.2
-    (subst (λ (b : List ℕ). Ingests c.args.id.now c.args.stamp b device later (Ok slot)) c.deref.ensures.value c.in_ok-slot.ensures)
+    (subst (λ (b : List ℕ). Ingests c.args.id.now c.args.stamp b device later (Ok slot)) c.deref.ensures.value
+    c.in_ok-slot.ensures)
     c.in_err-put_slot_line.ensures.part)
 
 -- it was, and acknowledged
@@ -50,5 +52,6 @@ returns g c =
     let body = c.in_ok-body.ensures.body in
     let slot = c.in_ok-slot.slot in
     taken c.in_ok-body.body.items (Ok slot) (c.is_identifier.ensures.0 (search rules)) (is_body body.0) body.1 body.2
-    (subst (λ (b : List ℕ). Ingests c.args.id.now c.args.stamp b device later (Ok slot)) c.deref.ensures.value c.in_ok-slot.ensures)
+    (subst (λ (b : List ℕ). Ingests c.args.id.now c.args.stamp b device later (Ok slot)) c.deref.ensures.value
+    c.in_ok-slot.ensures)
     c.in_ok-put_slot_line.ensures.whole

@@ -2,8 +2,8 @@
 use Rattle.std.proofs.Common.{ℕ, List, Ok, Err, refl, subst, rules, ◌∙◌}
 use Rattle.cell_types.specs.declared.refusal.Refusal.TheVariants.{NoMemory, SinkFault}
 use Rattle.cell_types.proofs.Passed.{handed}
-use Rattle.host_ports.specs.Sinks.{Gets, PutsPart}
 use Rattle.volume_commands.specs.Receipting.{made}
+use Rattle.volume_commands.proofs.Reports.{gets_as, part_as}
 use Rattle.volume_commands.proofs.receipt.put_receipt.Goals as goal
 
 -- no receipt was made
@@ -26,7 +26,7 @@ returns-in_err-put_text g c =
     let text = c.deref.ensures.value ∙ c.in_ok-text.ensures in
     rw (handed failed.result SinkFault failed.ensures.1)
     (made (Ok c.in_ok-receipt.receipt) (c.is_identifier.ensures.0 (search rules)) c.in_ok-receipt.ensures refl
-    (subst (λ (t : List ℕ). PutsPart t (g.K.Sink.state c.args.sink.now) (g.K.Sink.state c.put_text.new.sink)) text
+    (part_as text
     c.in_err-put_text.ensures.part))
 
 -- the text was put out
@@ -34,5 +34,5 @@ pub returns : goal.returns
 returns g c =
     let text = c.deref.ensures.value ∙ c.in_ok-text.ensures in
     made (Ok c.in_ok-receipt.receipt) (c.is_identifier.ensures.0 (search rules)) c.in_ok-receipt.ensures refl
-    (subst (λ (t : List ℕ). Gets (g.K.Sink.state c.args.sink.now).held (g.K.Sink.state c.put_text.new.sink).held t) text
+    (gets_as (g.K.Sink.state c.args.sink.now) (g.K.Sink.state c.put_text.new.sink) text
     c.in_ok-put_text.ensures.whole)
