@@ -1,5 +1,5 @@
 -- A document that was read in a slot that is done, from the look for its part on.
-use Rattle.std.proofs.Common.{◌≡◌, ◌≤◌, ◌+◌, ◌*◌, ◌↔◌, ℕ, List, length, Some, Result, Ok, Err, refl, ◌∙◌, sym, ap, subst, arith}
+use Rattle.std.proofs.Common.{◌≡◌, ◌<◌, ◌≤◌, ◌+◌, ◌↔◌, ℕ, List, length, Some, Result, Ok, Err, refl, ◌∙◌, sym, ap, subst, arith}
 use Rattle.std.specs.Prelude.{IsTrue, Bool}
 use Rattle.cell_types.specs.Image.{Image}
 use Rattle.cell_types.specs.Layout.{Layout}
@@ -8,10 +8,9 @@ use Rattle.cell_types.specs.declared.refusal.Fault.{Fault}
 use Rattle.cell_types.specs.declared.refusal.Fault.TheVariants.{Tampered, Failed}
 use Rattle.volume_meaning.specs.Slots.{cells_for}
 use Rattle.worm_device.specs.Views.{ViewState, Viewed}
-use Rattle.worm_device.proofs.Resting.{viewed_self}
 use Rattle.commit_record.specs.States.{stamp_cells}
 use Rattle.document_store.specs.Heads.{HasBody, id_of}
-use Rattle.document_store.specs.Looks.{HasStored, HoldsHead, HoldsIdentifier, IdentifierEnds, IsPartOf, IsSame, IsStated, LookFails, PartEnds, ReadsOnce, ReadsTwice, SameEnds}
+use Rattle.document_store.specs.Looks.{HasPart, HasStored, HoldsHead, HoldsIdentifier, HoldsSome, IdentifierEnds, IsPartOf, IsSame, LookFails, PartEnds, ReadsOnce, SameEnds}
 use Rattle.document_store.specs.Standing.{HoldsDocument}
 use Rattle.document_store.specs.declared.head.Head.{Head}
 use Rattle.document_store.specs.declared.part.Part.{Part}
@@ -24,13 +23,19 @@ pub identifier_fails : (g : Layout) (n : ℕ) (old new : ViewState) (fault : Fau
 identifier_fails g n old new (Tampered e) fails = fails
 identifier_fails g n old new Failed fails = fails
 
+-- a look found the part
+pub found_part : (g : Layout) (n : ℕ) (old mid : ViewState) (part : Part) → Viewed old mid
+    → PartEnds g n old mid (Ok (Some part)) → n < g.slots → HasPart g mid part
+found_part g n old mid part before found less = record {
+  slot = subst (λ (m : ℕ). m < g.slots) (sym found.0) less;
+  inside = found.1;
+  stated = found.4;
+  is = λ tells. subst (λ (m : ℕ). IsPartOf g mid.image m part) (sym found.0)
+      (found.3 (subst IsTrue before.called.tells tells));
+}
+
 module _ (g : Layout) (n : ℕ) (old mid new : ViewState) (part : Part) (before : Viewed old mid) (after : Viewed mid new)
     (found : PartEnds g n old mid (Ok (Some part))) where
-  -- it is the part of the slot that it names
-  pub part_of_own : IsTrue mid.base.tells → IsPartOf g mid.image part.slot part
-  part_of_own tells = subst (λ (m : ℕ). IsPartOf g mid.image m part) (sym found.0)
-      (found.3 (subst IsTrue before.called.tells tells))
-
   part_later : IsTrue old.base.tells → IsPartOf g new.image n part
   part_later tells = part_on after.image (found.3 tells)
 
@@ -46,11 +51,6 @@ module _ (g : Layout) (n : ℕ) (old mid new : ViewState) (part : Part) (before 
       let same = bytes_are tells start reserved bytes journal done in
       omega (arith, first, second, ap cells_for same)
 
-  pub reads_twice : new.base.reads ≤ old.base.reads + 2 * cells_for part.bytes + (3 + stamp_cells g) → ReadsTwice g n old new
-  reads_twice most tells start reserved bytes journal done =
-      let same = bytes_are tells start reserved bytes journal done in
-      omega (arith, most, ap cells_for same)
-
   -- why its document was not read
   pub read_fails : (fault : Fault) → LookFails g part.slot mid new fault → LookFails g n old new fault
   read_fails fault fails =
@@ -65,22 +65,31 @@ module _ (g : Layout) (n : ℕ) (old mid new : ViewState) (part : Part) (before 
   )
   same_then id (Err fault) ends = read_fails fault ends
 
-  module _ (h : Head) (has : HasBody new part.start part.bytes h) where
+module _ (g : Layout) (old new : ViewState) (part : Part) (viewed : Viewed old new) (has : HasPart g old part) where
+  -- a part that was found goes on being one
+  pub has_part_on : HasPart g new part
+  has_part_on = record {
+    slot = has.slot;
+    inside = has.inside;
+    stated = has.stated;
+    is = λ tells. part_on viewed.image (has.is (subst IsTrue viewed.called.tells tells));
+  }
+
+  module _ (h : Head) (body : HasBody new part.start part.bytes h) where
     -- the slot holds the document that was read
-    pub read_holds : IsTrue old.base.tells → HoldsDocument g new.image n (id_of h) has.body
-    read_holds tells =
-        whole_is_held g new n part (id_of h) has.body (told after (told before tells)) (part_later tells) has.whole
+    pub read_holds : IsTrue new.base.tells → HoldsDocument g new.image part.slot (id_of h) body.body
+    read_holds tells = whole_is_held g new part.slot part (id_of h) body.body tells (has_part_on.is tells) body.whole
 
-    pub holds_head : IsTrue old.base.tells → HoldsHead g new.image n h
-    holds_head tells = record { body = has.body; holds = read_holds tells; body_length = sym has.is_length }
+    -- the document of a part that was found before
+    pub part_head : IsTrue old.base.tells → HoldsHead g new.image part.slot h
+    part_head tells = record {
+      body = body.body;
+      holds = read_holds (told viewed tells);
+      body_length = sym body.is_length;
+    }
 
--- the document of a part that was found before
-pub part_head : (g : Layout) (old new : ViewState) (part : Part) (after : Viewed old new)
-    → part.start + cells_for part.bytes ≤ g.cells → (IsTrue old.base.tells → IsPartOf g old.image part.slot part)
-    → IsStated part → (h : Head) → HasBody new part.start part.bytes h → IsTrue old.base.tells
-    → HoldsHead g new.image part.slot h
-part_head g old new part after inside is stated h has tells =
-    holds_head g part.slot old old new part (viewed_self old) after (refl, inside, refl, is, stated) h has tells
+    pub holds_some : IsTrue new.base.tells → HoldsSome g new.image part.slot
+    holds_some tells = record { id = id_of h; body = body.body; holds = read_holds tells }
 
 module _ (g : Layout) (n : ℕ) (image : Image) (h : Head) (head : HoldsHead g image n h) where
   pub has_stored : h.id_length ≡ length (id_of h)

@@ -6,7 +6,6 @@ use Rattle.cell_types.specs.Layout.{Layout, reserve_at, outcome_at, done_at, spa
 use Rattle.cell_types.specs.declared.refusal.Evidence.{Evidence}
 use Rattle.cell_types.specs.declared.refusal.Fault.{Fault}
 use Rattle.cell_types.specs.declared.refusal.Fault.TheVariants.{Tampered, Failed}
-use Rattle.volume_meaning.specs.Slots.{IsDoneSlot}
 use Rattle.volume_meaning.proofs.Extending.{blank_before, unused_further, reserved_further, abandoned_further, committed_further, done_on, done_slot_on}
 use Rattle.tamper_rules.specs.Rules.{IsPlaceOf, Documents}
 use Rattle.tamper_rules.specs.declared.numbers.TheConstants.{BROKEN_DOCUMENT}
@@ -147,10 +146,3 @@ pub names_commit : (g : Layout) (old new : ViewState) (part : Part) → Viewed o
     → LookFails g part.slot old new (commit_breach part)
 names_commit g old new part viewed less same is none =
     names_commit_before g old new part viewed less same is (λ tells. spelled_none viewed.image (none tells))
-
--- a slot that was done is not seen undone
-pub not_undone : (g : Layout) (n : ℕ) (old new : ViewState) (e : Evidence) → n < g.slots
-    → (IsTrue old.base.tells → IsDoneSlot g old.image n) → PartEnds g n old new (Ok None) → e.rule ≡ BROKEN_DOCUMENT
-    → e.cell ≡ outcome_at n → LookFails g n old new (Tampered e)
-not_undone g n old new e less done ends rule cell =
-    (commit_is_place g n e.rule e.cell less rule cell, ends.0, λ tells. absurd ((ends.1 tells).undone (done tells)))

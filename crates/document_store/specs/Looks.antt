@@ -1,7 +1,7 @@
 -- How looks at the documents of slots may end, and why. Slot n's cells are read one after another while somebody else
 -- may write: what a look found written stands in the later of two images, and what it found missing was so in the
 -- earlier one.
-use Rattle.std.specs.Prelude.{◌≡◌, ◌≤◌, ◌+◌, ◌*◌, ◌⊎◌, ◌↔◌, ℕ, Bool, List, length, take, Option, Some, None, Result, Ok, Err, IsTrue}
+use Rattle.std.specs.Prelude.{◌≡◌, ◌≤◌, ◌<◌, ◌+◌, ◌⊎◌, ◌↔◌, ℕ, Bool, List, length, take, Option, Some, None, Result, Ok, Err, IsTrue}
 use Rattle.std.specs.Global.{Vec}
 use Rattle.cell_types.specs.Image.{Image}
 use Rattle.cell_types.specs.Layout.{Layout, outcome_at}
@@ -13,7 +13,6 @@ use Rattle.cell_types.specs.declared.refusal.Fault.TheVariants as faults
 use Rattle.cell_types.specs.declared.refusal.Refusal.{Refusal}
 use Rattle.cell_types.specs.declared.refusal.Refusal.TheVariants as refusals
 use Rattle.volume_meaning.specs.Documents.{document_at}
-use Rattle.volume_meaning.specs.declared.limits.TheConstants.{MAX_IDENTIFIER_BYTES}
 use Rattle.volume_meaning.specs.Slots.{IsDone, IsDoneSlot, cells_for}
 use Rattle.tamper_rules.specs.Rules.{IsPlaceOf}
 use Rattle.tamper_rules.specs.declared.numbers.TheConstants.{BROKEN_DOCUMENT}
@@ -22,7 +21,8 @@ use Rattle.worm_device.specs.Counts.{Rose}
 use Rattle.worm_device.specs.Views.{ViewState}
 use Rattle.commit_record.specs.States.{IsOutOfPlace, IsState, stamp_cells}
 use Rattle.commit_record.specs.declared.slot.SlotState.{SlotState}
-use Rattle.document_store.specs.Heads.{HasBody, id_of}
+use Rattle.document_store.specs.Heads.{HasBody, SpellsNone, id_of}
+use Rattle.document_store.specs.Putting.{GotFront, GotRest}
 use Rattle.document_store.specs.Standing.{HoldsDocument}
 use Rattle.document_store.specs.declared.body.BodyFault.{BodyFault}
 use Rattle.document_store.specs.declared.body.BodyFault.TheVariants.{ReadFault, SinkFault, Tampered}
@@ -69,6 +69,14 @@ pub record IsPartOf (g : Layout) (image : Image) (n : ℕ) (part : Part) : Type 
 abbrev pub IsStated : Part → Type 0
 IsStated part = IsWellFormed (Commit part.bytes part.journal) (outcome_at part.slot)
 
+-- A part that was found: over every view it is one that a slot of this layout may have, and where the device below tells
+-- its image it is the one of the slot that it names.
+pub record HasPart (g : Layout) (s : ViewState) (part : Part) : Type 0 where
+  pub slot : part.slot < g.slots
+  pub inside : part.start + cells_for part.bytes ≤ g.cells
+  pub stated : IsStated part
+  pub is : IsTrue s.base.tells → IsPartOf g s.image part.slot part
+
 -- the commit cell that states this part's document, as evidence that the document is broken
 abbrev pub commit_breach : Part → Fault
 commit_breach part = faults.Tampered (record {
@@ -92,28 +100,22 @@ PartEnds g n old new (Ok None) =
     (new.base.faults ≡ old.base.faults) × (IsTrue old.base.tells → IsUndone g old.image new.image n)
 PartEnds g n old new (Err fault) = LookFails g n old new fault
 
--- how a look for the document's part in a slot that is done may end, and why
-abbrev pub DonePartEnds : Layout → ℕ → ViewState → ViewState → Result Part Fault → Type 0
-DonePartEnds g n old new (Ok part) = PartEnds g n old new (Ok (Some part))
-DonePartEnds g n old new (Err fault) = LookFails g n old new fault
-
 -- how reading the document of a part may end, and why
 abbrev pub ReadDocumentEnds : Layout → Part → ViewState → ViewState → Result Head Fault → Type 0
 ReadDocumentEnds g part old new (Ok h) = (new.base.faults ≡ old.base.faults) × HasBody new part.start part.bytes h
 ReadDocumentEnds g part old new (Err fault) = LookFails g part.slot old new fault
+
+-- slot n holds a document
+pub record HoldsSome (g : Layout) (image : Image) (n : ℕ) : Type 0 where
+  pub id : List ℕ
+  pub body : List ℕ
+  pub holds : HoldsDocument g image n id body
 
 -- slot n holds a document with this head
 pub record HoldsHead (g : Layout) (image : Image) (n : ℕ) (h : Head) : Type 0 where
   pub body : List ℕ
   pub holds : HoldsDocument g image n (id_of h) body
   pub body_length : h.body_length ≡ length body
-
--- how reading the document of a slot that is done may end, and why
-abbrev pub DoneHeadEnds : Layout → ℕ → ViewState → ViewState → Result Head Fault → Type 0
-DoneHeadEnds g n old new (Ok h) =
-    (h.id_length ≤ MAX_IDENTIFIER_BYTES) × (h.id_length ≡ length (id_of h)) × (new.base.faults ≡ old.base.faults)
-    × (IsTrue old.base.tells → HoldsHead g new.image n h)
-DoneHeadEnds g n old new (Err fault) = LookFails g n old new fault
 
 -- slot n holds a document, of whose identifier and body these are the numbers of bytes
 pub record HasStored (g : Layout) (image : Image) (n : ℕ) (stored : Stored) : Type 0 where
@@ -186,15 +188,28 @@ BodyEnds g n old new from to (Err ReadFault) =
 BodyEnds g n old new from to (Err SinkFault) =
     (new.base.faults ≡ old.base.faults) × Rose from.faults to.faults × GotPart g n new from to
 
+-- The document of the part was taken: this is its head, the sink got its body behind what it held, and the part's slot
+-- holds it where the device below tells its image.
+pub record TakesDocument (g : Layout) (part : Part) (h : Head) (new : ViewState) (from to : SinkState) : Type 0 where
+  pub got : GotRest new part.start part.bytes h from to
+  pub holds : IsTrue new.base.tells → HoldsDocument g new.image part.slot (id_of h) got.has.body
+
+-- How taking the document of a part may end, and why. Where it is not whole the sink may have got a front of it.
+abbrev pub TakeEnds
+    : Layout → Part → ViewState → ViewState → SinkState → SinkState → Result Head BodyFault → Type 0
+TakeEnds g part old new from to (Ok h) =
+    (new.base.faults ≡ old.base.faults) × (to.faults ≡ from.faults) × TakesDocument g part h new from to
+TakeEnds g part old new from to (Err (Tampered e)) =
+    LookFails g part.slot old new (faults.Tampered e) × (to.faults ≡ from.faults)
+    × GotFront new part.start part.bytes from to × (IsTrue old.base.tells → SpellsNone new.image part.start part.bytes)
+TakeEnds g part old new from to (Err ReadFault) =
+    Rose old.base.faults new.base.faults × (to.faults ≡ from.faults) × GotFront new part.start part.bytes from to
+TakeEnds g part old new from to (Err SinkFault) =
+    (new.base.faults ≡ old.base.faults) × Rose from.faults to.faults × GotFront new part.start part.bytes from to
+
 -- a call read each cell of slot n's document once at most, and besides the three cells of its state, and its stamp cell
 -- where documents are stamped
 abbrev pub ReadsOnce : Layout → ℕ → ViewState → ViewState → Type 0
 ReadsOnce g n old new =
     IsTrue old.base.tells → (start reserved bytes journal : ℕ) → IsDone g new.image n start reserved bytes journal
     → new.base.reads ≤ old.base.reads + cells_for bytes + (3 + stamp_cells g)
-
--- or twice at most
-abbrev pub ReadsTwice : Layout → ℕ → ViewState → ViewState → Type 0
-ReadsTwice g n old new =
-    IsTrue old.base.tells → (start reserved bytes journal : ℕ) → IsDone g new.image n start reserved bytes journal
-    → new.base.reads ≤ old.base.reads + 2 * cells_for bytes + (3 + stamp_cells g)

@@ -66,16 +66,8 @@ PutRestEnds start bytes h old new from to (Ok u) =
     (new.base.faults ≡ old.base.faults) × (to.faults ≡ from.faults) × GotRest new start bytes h from to
 PutRestEnds start bytes h old new from to (Err fault) = PutFails start bytes old new from to fault
 
--- The sink got a body of so many bytes behind what it held: that of the part's document.
-pub record GotWhole (v : ViewState) (start bytes count : ℕ) (from to : SinkState) : Type 0 where
-  pub id : List ℕ
-  pub body : List ℕ
-  pub whole : IsWholePart v start bytes id body
-  pub count_is : count ≡ length body
-  pub gets : Gets from.held to.held body
-
--- how putting the body of a part may end, and why
-abbrev pub PutBodyEnds : ℕ → ℕ → ViewState → ViewState → SinkState → SinkState → Result ℕ PutFault → Type 0
-PutBodyEnds start bytes old new from to (Ok count) =
-    (new.base.faults ≡ old.base.faults) × (to.faults ≡ from.faults) × GotWhole new start bytes count from to
+-- how putting the body of a part may end, and why; at Ok this is the head that stands before it
+abbrev pub PutBodyEnds : ℕ → ℕ → ViewState → ViewState → SinkState → SinkState → Result Head PutFault → Type 0
+PutBodyEnds start bytes old new from to (Ok h) =
+    (new.base.faults ≡ old.base.faults) × (to.faults ≡ from.faults) × GotRest new start bytes h from to
 PutBodyEnds start bytes old new from to (Err fault) = PutFails start bytes old new from to fault

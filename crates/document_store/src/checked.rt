@@ -1,11 +1,11 @@
 //! Whether the document of a slot is whole.
-ghost use Rattle.std.specs.Prelude.{◌<◌, ◌≤◌, IsTrue};
-ghost use Rattle.volume_meaning.specs.Slots.{IsDoneSlot};
+ghost use Rattle.std.specs.Prelude.{◌≤◌, ◌+◌};
+ghost use Rattle.volume_meaning.specs.Slots.{cells_for};
 ghost use Rattle.worm_device.specs.Views.{Viewed};
-ghost use Rattle.document_store.specs.Looks.{CheckEnds, ReadsOnce};
+ghost use Rattle.document_store.specs.Looks.{CheckEnds, HasPart};
 
-use crate::part::done_head;
-use cell_types::{Fault, Volume};
+use crate::part::{Part, read_part};
+use cell_types::{Fault, Geometry};
 use worm_device::View;
 
 /// A document that is whole.
@@ -17,18 +17,16 @@ pub struct Stored {
     pub body_length: u32,
 }
 
-/// Checks the document of a slot that is done: it names the commit cell, by rule 4, where the document is broken. Reads
-/// each cell of the document once at most, and the cells of the slot's state besides.
-pub fn check<V: View>(view: &mut V, volume: &Volume, slot: u32) -> Result<Stored, Fault>
-    requires slot { slot < volume.now.geometry.slots }
-    requires size { volume.now.geometry.cells ≤ (V.seen view.old).cells }
-    requires done { IsTrue (V.seen view.old).base.tells
-        → IsDoneSlot volume.now.geometry (V.seen view.old).image slot }
+/// Checks the document of a part: it names the commit cell, by rule 4, where the document is broken. Reads each of its
+/// cells once at most.
+pub fn check<V: View>(view: &mut V, geometry: &Geometry, part: &Part) -> Result<Stored, Fault>
+    requires size { geometry.now.cells ≤ (V.seen view.old).cells }
+    requires part { HasPart geometry.now (V.seen view.old) part.now }
     ensures viewed { Viewed (V.seen view.old) (V.seen view.new) }
-    ensures reads { ReadsOnce volume.now.geometry slot (V.seen view.old) (V.seen view.new) }
-    ensures ends { CheckEnds volume.now.geometry slot (V.seen view.old) (V.seen view.new) result }
+    ensures reads { (V.seen view.new).base.reads ≤ (V.seen view.old).base.reads + cells_for part.now.bytes }
+    ensures ends { CheckEnds geometry.now part.now.slot (V.seen view.old) (V.seen view.new) result }
 {
-    let head = done_head(view, volume, slot)?;
+    let head = read_part(view, geometry, part)?;
     Ok(Stored {
         identifier_length: head.id_length,
         body_length: head.body_length,

@@ -14,9 +14,11 @@
 //! by rule 4. Any cell may be a forgery. What a call found stands when it ends. What it found missing was
 //! missing when it began.
 //!
-//! Most calls need a slot that is done. So call `slot_part` first: it says where the document lies, if the
-//! slot is done. Then `part_has_identifier` compares the identifier, `read_part` reads the document whole,
-//! and `next_row` reads it in pieces, of which `head_of_row` reads the head off the first. `name_commit`
+//! Call `slot_part` first: it says where the document lies, if the slot is done. The part that it answers is
+//! handed to each call after it, and no cell of the slot's state is read again. `same_identifier` compares the
+//! identifier, `check` and `read_part` read the document whole, `body_into` puts its body out, checked before,
+//! and `put_part` that of a document that was read whole already. `take_part` gives head and body in one
+//! pass, and `next_row` reads in pieces, of which `head_of_row` reads the head off the first. `name_commit`
 //! names the commit cell of a document that is broken.
 //!
 //! Stands on `append_file`, which reads bytes from cells, `commit_record`, which reads states of slots, and
@@ -34,10 +36,10 @@ mod putting;
 mod text;
 
 pub use append_file::{ContentFault, Position, ROW_BYTES, next_row};
-pub use body::{BodyFault, body_into};
+pub use body::{BodyFault, body_into, put_part, take_part};
 pub use checked::{Stored, check};
 pub use head::{Head, head_of_row, identifier_of_head, read_document, read_head};
-pub use identifier::{identifier_of, is_identifier, part_has_identifier, same_identifier};
+pub use identifier::{identifier_of, is_identifier, same_identifier};
 pub use laws::{held_is_one, held_is_standing, held_stays};
 pub use part::{Part, name_commit, read_part, slot_part};
 pub use text::Text;

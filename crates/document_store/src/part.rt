@@ -1,9 +1,9 @@
 //! Where the document of a slot lies, and what names it where it is broken.
-ghost use Rattle.std.specs.Prelude.{◌≡◌, ◌<◌, ◌≤◌, ◌+◌, IsTrue};
-ghost use Rattle.volume_meaning.specs.Slots.{IsDoneSlot, cells_for};
+ghost use Rattle.std.specs.Prelude.{◌≡◌, ◌<◌, ◌≤◌, ◌+◌};
+ghost use Rattle.volume_meaning.specs.Slots.{cells_for};
 ghost use Rattle.worm_device.specs.Views.{Viewed};
 ghost use Rattle.commit_record.specs.States.{stamp_cells};
-ghost use Rattle.document_store.specs.Looks.{DoneHeadEnds, DonePartEnds, IsPartOf, IsStated, PartEnds, ReadDocumentEnds, ReadsOnce, commit_breach};
+ghost use Rattle.document_store.specs.Looks.{HasPart, IsStated, PartEnds, ReadDocumentEnds, commit_breach};
 
 use crate::head::{Head, read_document};
 use append_file::ContentFault;
@@ -68,12 +68,8 @@ pub fn name_commit(geometry: &Geometry, part: &Part) -> Fault
 /// Reads the document of a part, each cell once, and answers what stands before its body. Where it is broken its commit
 /// cell is named, by rule 4.
 pub fn read_part<V: View>(view: &mut V, geometry: &Geometry, part: &Part) -> Result<Head, Fault>
-    requires slot { part.now.slot < geometry.now.slots }
     requires size { geometry.now.cells ≤ (V.seen view.old).cells }
-    requires inside { part.now.start + cells_for part.now.bytes ≤ geometry.now.cells }
-    requires stated { IsStated part.now }
-    requires part { IsTrue (V.seen view.old).base.tells
-        → IsPartOf geometry.now (V.seen view.old).image part.now.slot part.now }
+    requires part { HasPart geometry.now (V.seen view.old) part.now }
     ensures viewed { Viewed (V.seen view.old) (V.seen view.new) }
     ensures reads { (V.seen view.new).base.reads ≤ (V.seen view.old).base.reads + cells_for part.now.bytes }
     ensures ends { ReadDocumentEnds geometry.now part.now (V.seen view.old) (V.seen view.new) result }
@@ -83,40 +79,4 @@ pub fn read_part<V: View>(view: &mut V, geometry: &Geometry, part: &Part) -> Res
         Err(ContentFault::ReadFault) => Err(Fault::Failed),
         Err(ContentFault::Broken) => Err(name_commit(geometry, part)),
     }
-}
-
-/// Where the document of a slot lies that is done. Makes at most three reads, and one more where documents
-/// are stamped.
-pub(crate) fn done_part<V: View>(view: &mut V, volume: &Volume, slot: u32) -> Result<Part, Fault>
-    requires slot { slot < volume.now.geometry.slots }
-    requires size { volume.now.geometry.cells ≤ (V.seen view.old).cells }
-    requires done { IsTrue (V.seen view.old).base.tells
-        → IsDoneSlot volume.now.geometry (V.seen view.old).image slot }
-    ensures viewed { Viewed (V.seen view.old) (V.seen view.new) }
-    ensures reads { (V.seen view.new).base.reads ≤ (V.seen view.old).base.reads
-        + (3 + stamp_cells volume.now.geometry) }
-    ensures ends { DonePartEnds volume.now.geometry slot (V.seen view.old) (V.seen view.new) result }
-{
-    let Some(part) = slot_part(view, volume, slot)? else {
-        // A view that tells what it shows has the done cell that was seen before.
-        let cell = volume.geometry.outcome_at(slot);
-        return Err(breach(BROKEN_DOCUMENT, cell, encode(RecordCell::Abandon, cell)));
-    };
-    Ok(part)
-}
-
-/// Reads the document of a slot that is done, each cell of it once at most, and the cells of the slot's state
-/// besides.
-pub(crate) fn done_head<V: View>(view: &mut V, volume: &Volume, slot: u32) -> Result<Head, Fault>
-    requires slot { slot < volume.now.geometry.slots }
-    requires size { volume.now.geometry.cells ≤ (V.seen view.old).cells }
-    requires done { IsTrue (V.seen view.old).base.tells
-        → IsDoneSlot volume.now.geometry (V.seen view.old).image slot }
-    ensures viewed { Viewed (V.seen view.old) (V.seen view.new) }
-    ensures reads { ReadsOnce volume.now.geometry slot (V.seen view.old) (V.seen view.new) }
-    ensures ends { DoneHeadEnds volume.now.geometry slot (V.seen view.old) (V.seen view.new) result }
-{
-    let part = done_part(view, volume, slot)?;
-    let head = read_part(view, &volume.geometry, &part)?;
-    Ok(head)
 }

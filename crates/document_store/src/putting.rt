@@ -25,14 +25,14 @@ pub(crate) enum PutFault {
     SinkFault,
 }
 
-/// Puts the body of the document in a part of so many stored bytes from `start` on, and answers how many bytes it has.
+/// Puts the body of the document in a part of so many stored bytes from `start` on, and answers what stands before it.
 /// Reads each cell once.
 pub(crate) fn put_document<V: View, K: Sink>(
     view: &mut V,
     start: u32,
     bytes: u32,
     sink: &mut K,
-) -> Result<u32, PutFault>
+) -> Result<Head, PutFault>
     requires { start + cells_for bytes ≤ (V.seen view.old).cells }
     ensures viewed { Viewed (V.seen view.old) (V.seen view.new) }
     ensures reads { (V.seen view.new).base.reads ≤ (V.seen view.old).base.reads + cells_for bytes }
@@ -46,7 +46,7 @@ pub(crate) fn put_document<V: View, K: Sink>(
         Err(ContentFault::ReadFault) => return Err(PutFault::ReadFault),
     };
     match put_body(view, start, bytes, &mut position, &head, sink) {
-        Ok(()) => Ok(head.body_length),
+        Ok(()) => Ok(head),
         Err(fault) => Err(fault),
     }
 }

@@ -20,6 +20,7 @@ use Rattle.worm_device.specs.Views.{ViewState, Viewed}
 use Rattle.worm_device.proofs.Counting.{rose_from}
 use Rattle.worm_device.proofs.Resting.{viewed_self, viewed_then}
 use Rattle.document_store.specs.Looks.{HoldsIdentifier, IsSame, LookFails}
+use Rattle.document_store.specs.declared.part.Part.{Part}
 use Rattle.document_store.proofs.Holding.{held_stands}
 use Rattle.document_store.proofs.Naming.{fails_from}
 use Rattle.hash_tree.specs.Levels.{AreBounds, IsLedWithin, IsLevelPlaced, IsLevelReached, bucket_at, child_at, first_level, node_of}
@@ -33,7 +34,7 @@ use Rattle.hash_tree.proofs.Licence.{bucket_place}
 use Rattle.hash_tree.proofs.Paths.{bucket_passed, false_never, passed_along}
 use Rattle.identifier_lookup.specs.Candidates.{Compares, HoldsNamed, NamesBucket}
 use Rattle.identifier_lookup.specs.Costs.{WalkCosts}
-use Rattle.identifier_lookup.specs.Walks.{HasIdentifierTrail, IsBlankIn, IsFirstOnPath, IsPassedAbove, LiesOnPath, LooksUpSlot, NoneHasTrail, WalkEnds, WalksPath, at_bucket, at_child, in_slot}
+use Rattle.identifier_lookup.specs.Walks.{HasIdentifierTrail, IsBlankIn, IsFirstOnPath, IsFound, IsPassedAbove, LiesOnPath, LooksUpSlot, NoneHasTrail, WalkEnds, WalksPath, at_bucket, at_child, in_slot}
 use Rattle.identifier_lookup.specs.declared.answers.Walk.TheVariants as walks
 use Rattle.identifier_lookup.specs.declared.candidates.Named.{Named}
 use Rattle.identifier_lookup.proofs.Costing.{CostsSoFar, below_candidate, below_next, compared_below, costs_begin, costs_end, costs_end_there, costs_more, passed_is_way}
@@ -366,7 +367,7 @@ module _ (g : Layout) (horizon edge : ℕ) (id : List ℕ) (old now mid : ViewSt
       bucket_here : bucket ≡ node_of g next + nibble (sha256 id) next.number
       bucket_here = step.ends.0.0 ∙ bucket_is offered step
 
-      bucket_later : {result : Result Bool Fault} → Compares g horizon named id mid new result
+      bucket_later : {result : Result (Option Part) Fault} → Compares g horizon named id mid new result
           → IsTrue old.base.tells
           → Holds new.image (node_of g next + nibble (sha256 id) next.number) (Bucket slot (fingerprint_of (sha256 id)))
       bucket_later compared tells =
@@ -377,14 +378,14 @@ module _ (g : Layout) (horizon edge : ℕ) (id : List ℕ) (old now mid : ViewSt
       under : compared_below level.number level.answered ≤ next.number
       under = below_candidate level.number next.number level.answered step.further step.ends.0.2
 
-      costs_on : {result : Result Bool Fault} → Compares g horizon named id mid new result
+      costs_on : {result : Result (Option Part) Fault} → Compares g horizon named id mid new result
           → CostsSoFar g id old new next.number (next.number + 1)
       costs_on compared = costs_more so_far.costs mid next.number step.viewed step.reads
           (below_next level.number next.number level.answered step.further) step.placed.number (node_of g next) slot new
           compared.viewed compared.costs (viewed_then (whole offered step) compared.viewed) under
           (λ tells volume. on_path_on compared.viewed.image (way_here offered step tells volume)) (bucket_later compared)
 
-      costs_whole : {result : Result Bool Fault} → Compares g horizon named id mid new result → WalkCosts g id old new
+      costs_whole : {result : Result (Option Part) Fault} → Compares g horizon named id mid new result → WalkCosts g id old new
       costs_whole compared = costs_end_there so_far.costs mid next.number step.viewed step.reads
           (below_next level.number next.number level.answered step.further) step.placed.number (node_of g next) slot new
           compared.viewed compared.costs (viewed_then (whole offered step) compared.viewed) under
@@ -399,7 +400,7 @@ module _ (g : Layout) (horizon edge : ℕ) (id : List ℕ) (old now mid : ViewSt
           (passed_to_on viewed.image (passed_here offered step tells volume))
 
       -- the slot is the first on the path
-      first_later : {result : Result Bool Fault} → Compares g horizon named id mid new result → IsTrue old.base.tells
+      first_later : {result : Result (Option Part) Fault} → Compares g horizon named id mid new result → IsTrue old.base.tells
           → IsVolume old.cells old.image g → IsFirstOnPath g new.cells new.image id slot
       first_later compared tells volume = record {
         node = node_of g next;
@@ -409,7 +410,7 @@ module _ (g : Layout) (horizon edge : ℕ) (id : List ℕ) (old now mid : ViewSt
       }
 
       -- so what is named is its bucket, or a cell of the slot
-      compare_lies : (e : Evidence) {result : Result Bool Fault} → Compares g horizon named id mid new result
+      compare_lies : (e : Evidence) {result : Result (Option Part) Fault} → Compares g horizon named id mid new result
           → IsTrue old.base.tells → IsVolume old.cells old.image g
           → NamesBucket g horizon named mid new e ⊎ LookFails g slot mid new (Tampered e)
           → LiesOnPath g new.cells new.image id e
@@ -468,35 +469,38 @@ module _ (g : Layout) (horizon edge : ℕ) (id : List ℕ) (old now mid : ViewSt
       holds_own : IsSame g new.image slot id true → HoldsIdentifier g new.image slot id
       holds_own same = subst (λ (i : List ℕ). HoldsIdentifier g new.image slot i) (same.says.0 refl) same.holds
 
-      pub walk_finds : Compares g horizon named id mid new (Ok true)
-          → WalksPath g horizon edge id old new (Ok (walks.Found slot))
-      walk_finds compared =
+      pub walk_finds : (part : Part) → Compares g horizon named id mid new (Ok (Some part))
+          → WalksPath g horizon edge id old new (Ok (walks.Found part))
+      walk_finds part compared =
           let all = viewed_then (whole offered step) compared.viewed in
+          let slot_is : slot ≡ part.slot = sym compared.ends.3 in
+          let found : IsTrue old.base.tells → IsFound g id old new slot = λ tells.
+          let own = holds_own (compared.ends.2 (named_later tells)) in
+          record {
+            holds = own;
+            first = first_later compared tells;
+            alone = λ volume m t.
+                the_found_one
+                (hash_trail_on compared.viewed.image (trail_here offered step tells volume m t))
+                slot t.body own.body (stands_on all.image t.stands)
+                (held_stands g old.cells new.image slot id own.body (volume_now compared.viewed volume)
+                own.holds)
+                (bucket_later compared tells);
+          } in
           record {
             viewed = all;
             costs = costs_whole compared;
             ends = (
-              compared.ends.0,
+              subst (λ (n : ℕ). n < horizon) slot_is compared.ends.0,
               compared.ends.1 ∙ step.ends.1 ∙ so_far.faults,
-              λ tells.
-                  let own = holds_own (compared.ends.2 (named_later tells)) in
-                  record {
-                    holds = own;
-                    first = first_later compared tells;
-                    alone = λ volume m t.
-                        the_found_one
-                        (hash_trail_on compared.viewed.image (trail_here offered step tells volume m t))
-                        slot t.body own.body (stands_on all.image t.stands)
-                        (held_stands g old.cells new.image slot id own.body (volume_now compared.viewed volume)
-                        own.holds)
-                        (bucket_later compared tells);
-                  },
+              λ tells. subst (λ (n : ℕ). IsFound g id old new n) slot_is (found tells),
+              compared.ends.4,
             );
             named = tt;
           }
 
       -- or another one, and the bucket is passed
-      pub walk_on : Compares g horizon named id mid new (Ok false) → WalkSoFar g edge id old new next
+      pub walk_on : Compares g horizon named id mid new (Ok None) → WalkSoFar g edge id old new next
       walk_on compared = record {
         viewed = viewed_then (whole offered step) compared.viewed;
         costs = subst (λ (b : Bool). CostsSoFar g id old new next.number (compared_below next.number b))

@@ -15,10 +15,11 @@ pub any_loan : (g : Layout) (horizon edge : ℕ) (id : List ℕ) (old new : Devi
     (result : Result Walk Fault)
     → WalkEnds g horizon edge id (seen_directly old lent) (seen_directly new back) result
     → WalkEnds g horizon edge id (seen_directly old 0) (seen_directly new 0) result
-any_loan g horizon edge id old new lent back (Ok (walks.Found n)) h = (
+any_loan g horizon edge id old new lent back (Ok (walks.Found part)) h = (
   h.0,
   h.1,
   λ tells. let found = h.2 tells in record { holds = found.holds; first = found.first; alone = found.alone },
+  record { slot = h.3.slot; inside = h.3.inside; stated = h.3.stated; is = h.3.is },
 )
 any_loan g horizon edge id old new lent back (Ok (walks.End place level)) h = (
   h.0,

@@ -1,5 +1,5 @@
 -- What comparing the document of a candidate's slot with an identifier answers.
-use Rattle.std.specs.Prelude.{◌≡◌, ◌≤◌, ◌<◌, ◌⊎◌, ℕ, Bool, List, Some, Result, Ok, Err, IsTrue}
+use Rattle.std.specs.Prelude.{◌≡◌, ◌≤◌, ◌<◌, ◌⊎◌, ℕ, true, false, List, Option, Some, None, Result, Ok, Err, IsTrue}
 use Rattle.cell_types.specs.Image.{Image}
 use Rattle.cell_types.specs.Layout.{Layout}
 use Rattle.cell_types.specs.Records.{record_bytes}
@@ -13,7 +13,8 @@ use Rattle.volume_meaning.specs.Volumes.{Holds}
 use Rattle.tamper_rules.specs.declared.numbers.TheConstants.{FAKE_BUCKET}
 use Rattle.worm_device.specs.Counts.{Rose}
 use Rattle.worm_device.specs.Views.{ViewState, Viewed}
-use Rattle.document_store.specs.Looks.{IsSame, LookFails}
+use Rattle.document_store.specs.Looks.{HasPart, IsSame, LookFails}
+use Rattle.document_store.specs.declared.part.Part.{Part}
 use Rattle.identifier_lookup.specs.Costs.{CompareCosts}
 use Rattle.identifier_lookup.specs.declared.candidates.Named.{Named}
 
@@ -38,17 +39,21 @@ NamesBucket g horizon named old new e =
     × (IsTrue old.base.tells → IsFake g horizon named old.image new.image e)
 
 -- How comparing the document of the slot that a bucket names may end, and why.
-abbrev pub CompareEnds : Layout → ℕ → Named → List ℕ → ViewState → ViewState → Result Bool Fault → Type 0
-CompareEnds g horizon named id old new (Ok same) =
+abbrev pub CompareEnds : Layout → ℕ → Named → List ℕ → ViewState → ViewState → Result (Option Part) Fault → Type 0
+CompareEnds g horizon named id old new (Ok (Some part)) =
     (named.slot < horizon) × (new.base.faults ≡ old.base.faults)
-    × (IsTrue old.base.tells → IsSame g new.image named.slot id same)
+    × (IsTrue old.base.tells → IsSame g new.image named.slot id true)
+    × (part.slot ≡ named.slot) × HasPart g new part
+CompareEnds g horizon named id old new (Ok None) =
+    (named.slot < horizon) × (new.base.faults ≡ old.base.faults)
+    × (IsTrue old.base.tells → IsSame g new.image named.slot id false)
 CompareEnds g horizon named id old new (Err Failed) = Rose old.base.faults new.base.faults
 CompareEnds g horizon named id old new (Err (Tampered e)) =
     NamesBucket g horizon named old new e ⊎ LookFails g named.slot old new (Tampered e)
 
 -- what comparing does
 pub record Compares (g : Layout) (horizon : ℕ) (named : Named) (id : List ℕ) (old new : ViewState)
-    (result : Result Bool Fault) : Type 0 where
+    (result : Result (Option Part) Fault) : Type 0 where
   pub viewed : Viewed old new
   pub costs : CompareCosts g named.slot old new
   pub ends : CompareEnds g horizon named id old new result

@@ -16,7 +16,7 @@ use Rattle.tamper_rules.specs.Rules.{IsBroken, IsPlaceOf}
 use Rattle.tamper_rules.specs.declared.numbers.TheConstants.{BROKEN_DOCUMENT, DONE_CELL, FAKE_BUCKET, LOST_CHILD, OUTCOME_CELL, RESERVE_CELL}
 use Rattle.worm_device.specs.Counts.{IsStill, Rose}
 use Rattle.worm_device.specs.Views.{ViewState, Viewed}
-use Rattle.document_store.specs.Looks.{HoldsIdentifier}
+use Rattle.document_store.specs.Looks.{HasPart, HoldsIdentifier}
 use Rattle.hash_tree.specs.Levels.{IsLedWithin, IsLevelPlaced, IsLevelReached, node_of}
 use Rattle.hash_tree.specs.Steps.{IsHashRule, IsOpenOf}
 use Rattle.hash_tree.specs.declared.level.Level.{Level}
@@ -150,10 +150,12 @@ abbrev pub LookUpNames : Layout → List ℕ → ViewState → ViewState → Res
 LookUpNames g id old new (Ok found) = ⊤
 LookUpNames g id old new (Err fault) = NamesOnPath g id old new fault
 
--- How a walk may end, and why. What it says of the image holds at its exit.
+-- How a walk may end, and why. What it says of the image holds at its exit. What was found is a part, and so each call that
+-- asks for one takes it.
 abbrev pub WalkEnds : Layout → ℕ → ℕ → List ℕ → ViewState → ViewState → Result Walk Fault → Type 0
-WalkEnds g horizon edge id old new (Ok (Found n)) =
-    (n < horizon) × (new.base.faults ≡ old.base.faults) × (IsTrue old.base.tells → IsFound g id old new n)
+WalkEnds g horizon edge id old new (Ok (Found part)) =
+    (part.slot < horizon) × (new.base.faults ≡ old.base.faults) × (IsTrue old.base.tells → IsFound g id old new part.slot)
+    × HasPart g new part
 WalkEnds g horizon edge id old new (Ok (End place level)) =
     (level.digest ≡ sha256 id) × IsLevelPlaced g edge new level × IsOpenOf g level place
     × (new.base.faults ≡ old.base.faults) × (IsTrue old.base.tells → EndsThere g id old new place level)

@@ -5,7 +5,7 @@ ghost use Rattle.tamper_rules.specs.declared.numbers.TheConstants.{FAKE_BUCKET};
 ghost use Rattle.identifier_lookup.specs.Candidates.{Compares, HoldsNamed, IsNamedCell};
 
 use cell_types::{Evidence, Fault, RecordCell, Volume, encode};
-use document_store::{part_has_identifier, slot_part};
+use document_store::{Part, same_identifier, slot_part};
 use tamper_rules::FAKE_BUCKET;
 use worm_device::View;
 
@@ -18,15 +18,15 @@ pub struct Named {
     pub digest: [u8; 32],
 }
 
-/// Whether the slot that a bucket names holds a document with this identifier. The bucket is evidence where the slot
-/// is at or past the horizon, or not done.
-pub fn has_identifier<V: View>(
+/// Where the document of the slot lies that a bucket names, if it has this identifier. The bucket is evidence where the
+/// slot is at or past the horizon, or not done.
+pub fn part_with_identifier<V: View>(
     view: &mut V,
     volume: &Volume,
     horizon: u32,
     named: &Named,
     id: &[u8],
-) -> Result<bool, Fault>
+) -> Result<Option<Part>, Fault>
     requires size { volume.now.geometry.cells ≤ (V.seen view.old).cells }
     requires horizon { horizon ≤ volume.now.geometry.slots }
     requires slot { named.now.slot < MAX_SLOTS }
@@ -40,7 +40,11 @@ pub fn has_identifier<V: View>(
     let Some(part) = found else {
         return Err(Fault::Tampered(fake_bucket(named)));
     };
-    part_has_identifier(view, &volume.geometry, &part, id)
+    let same = same_identifier(view, &volume.geometry, &part, id)?;
+    if !same {
+        return Ok(None);
+    }
+    Ok(Some(part))
 }
 
 /// The bucket, as evidence that it is no true one.

@@ -4,7 +4,7 @@ ghost use Rattle.hash_tree.specs.Levels.{AreBounds};
 ghost use Rattle.identifier_lookup.specs.Walks.{LooksUpSlot, WalksPath};
 
 use crate::answers::Walk;
-use crate::candidates::{Named, has_identifier};
+use crate::candidates::{Named, part_with_identifier};
 use cell_types::{Fault, Volume};
 use hash_tree::{Level, PathStep, next_candidate};
 use sha2::{Digest, Sha256};
@@ -43,9 +43,9 @@ pub fn walk<V: View>(
             PathStep::End(place) => return Ok(Walk::End(place, level)),
             PathStep::PathFull => return Ok(Walk::PathFull),
         };
-        let same = has_identifier(view, volume, horizon, &named, id)?;
-        if same {
-            return Ok(Walk::Found(named.slot));
+        let found = part_with_identifier(view, volume, horizon, &named, id)?;
+        if let Some(part) = found {
+            return Ok(Walk::Found(part));
         }
     }
 }
@@ -66,7 +66,7 @@ pub fn lookup<V: View>(
 {
     let found = walk(view, volume, horizon, edge, id)?;
     match found {
-        Walk::Found(slot) => Ok(Some(slot)),
+        Walk::Found(part) => Ok(Some(part.slot)),
         Walk::End(_place, _level) => Ok(None),
         Walk::PathFull => Ok(None),
     }

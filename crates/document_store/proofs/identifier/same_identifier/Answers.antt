@@ -1,21 +1,15 @@
--- The look for the part, and the identifier asked of it.
-use Rattle.document_store.proofs.Checking.{reads_once, same_then}
+-- The answer says whether it is that one.
+use Rattle.std.proofs.Common.{rules}
+use Rattle.document_store.proofs.Checking.{is_same, part_head}
 use Rattle.document_store.proofs.identifier.same_identifier.Goals as goal
 
--- the reads of both
-pub returns-clause-reads : goal.returns-clause-reads
-returns-clause-reads g c =
-    reads_once c.args.volume.now.geometry c.args.slot (g.V.View.seen c.args.view.now)
-    (g.V.View.seen c.done_part.new.view) (g.V.View.seen c.part_has_identifier.new.view) c.in_ok-part.part
-    c.done_part.ensures.viewed
-    c.part_has_identifier.ensures.viewed c.in_ok-part.ensures.ends c.done_part.ensures.reads
-    c.part_has_identifier.ensures.reads
-
--- what the part answers is the slot's answer
 pub returns-clause-ends : goal.returns-clause-ends
 returns-clause-ends g c =
-    same_then c.args.volume.now.geometry c.args.slot (g.V.View.seen c.args.view.now)
-    (g.V.View.seen c.done_part.new.view) (g.V.View.seen c.part_has_identifier.new.view) c.in_ok-part.part
-    c.done_part.ensures.viewed
-    c.part_has_identifier.ensures.viewed c.in_ok-part.ensures.ends c.args.id.now c.part_has_identifier.result
-    c.part_has_identifier.ensures.ends
+    let read = c.in_ok-head.ensures.ends in (
+      read.0,
+      λ tells. is_same c.args.geometry.now c.args.part.now.slot (g.V.View.seen c.read_part.new.view).image
+          c.in_ok-head.head
+          (part_head c.args.geometry.now (g.V.View.seen c.args.view.now) (g.V.View.seen c.read_part.new.view)
+          c.args.part.now c.read_part.ensures.viewed c.requires.part c.in_ok-head.head read.1 tells) c.args.id.now
+          c.eq.result (search rules),
+    )

@@ -13,5 +13,5 @@ returns-in-Err-Broken-clause-ends g c =
     let broken = subst (λ (f : ContentFault). HeadFaultEnds part.start part.bytes old new f) c.in-Err-Broken.field-0-is
     c.in-Err-Broken.ensures.ends in
     rw c.name_commit.ensures
-    (names_commit c.args.geometry.now old new part c.read_document.ensures.viewed c.requires.slot broken.0
-    c.requires.part broken.1)
+    (names_commit c.args.geometry.now old new part c.read_document.ensures.viewed c.requires.part.slot broken.0
+    c.requires.part.is broken.1)

@@ -31,21 +31,21 @@ returns-in-PathFull g c =
     c.requires.bounds c.loop-step.invariant (rw c.in-PathFull.is at c.in_ok-step.ensures)
 
 -- the candidate's slot, or its document, is evidence
-pub returns-in_err-same : goal.returns-in_err-same
-returns-in_err-same g c =
-    rw (handed c.from_residual-in_err-same.result c.in_err-same.field-0.0 c.from_residual-in_err-same.ensures.1)
+pub returns-in_err-found : goal.returns-in_err-found
+returns-in_err-found g c =
+    rw (handed c.from_residual-in_err-found.result c.in_err-found.field-0.0 c.from_residual-in_err-found.ensures.1)
     (compare_fails c.args.volume.now.geometry c.args.horizon c.args.edge c.args.id.now _ _ _ c.loop-step.level _
     c.requires.bounds c.loop-step.invariant _ c.in-Candidate.slot c.in-Candidate.bucket
-    (rw c.in-Candidate.is at c.in_ok-step.ensures) c.in_err-same.field-0.0
-    (rw c.digest-digest.ensures at c.in_err-same.ensures))
+    (rw c.in-Candidate.is at c.in_ok-step.ensures) c.in_err-found.field-0.0
+    (rw c.digest-digest.ensures at c.in_err-found.ensures))
 
 -- it has the identifier
-pub returns-then-same : goal.returns-then-same
-returns-then-same g c =
+pub returns-in-Some : goal.returns-in-Some
+returns-in-Some g c =
     walk_finds c.args.volume.now.geometry c.args.horizon c.args.edge c.args.id.now _ _ _ c.loop-step.level _
     c.requires.bounds c.loop-step.invariant _ c.in-Candidate.slot c.in-Candidate.bucket
-    (rw c.in-Candidate.is at c.in_ok-step.ensures)
-    (rw c.digest-digest.ensures at (rw c.if-same.true at c.in_ok-same.ensures))
+    (rw c.in-Candidate.is at c.in_ok-step.ensures) c.in-Some.part
+    (rw c.digest-digest.ensures at (rw c.in-Some.is at c.in_ok-found.ensures))
 
 -- or another one
 pub loop-step-preserved : goal.loop-step-preserved
@@ -53,4 +53,4 @@ loop-step-preserved g c =
     walk_on c.args.volume.now.geometry c.args.horizon c.args.edge c.args.id.now _ _ _ c.loop-step.level
     c.next_candidate.new.level c.requires.bounds c.loop-step.invariant _ c.in-Candidate.slot c.in-Candidate.bucket
     (rw c.in-Candidate.is at c.in_ok-step.ensures)
-    (rw c.digest-digest.ensures at (rw c.if-same.false at c.in_ok-same.ensures))
+    (rw c.digest-digest.ensures at (rw c.in_default.is at c.in_ok-found.ensures))
