@@ -36,7 +36,8 @@ returns-in-Ok-None g c =
 -- memory lacked
 pub returns-in-Err-NoMemory : goal.returns-in-Err-NoMemory
 returns-in-Err-NoMemory g c =
-    unmade c.args.id.now c.in-Ok.found _ _ _ c.in-Ok.ensures c.receipt_of_slot.ensures.viewed
+    rw c.from.ensures
+    (unmade c.args.id.now c.in-Ok.found _ _ _ c.in-Ok.ensures c.receipt_of_slot.ensures.viewed)
 
 -- a read failed
 pub returns-in-Err-ReadFault : goal.returns-in-Err-ReadFault

@@ -20,9 +20,10 @@ returns-in-Err-ReadFault-clause-ends g c = λ terms was.
 -- there was no memory
 pub returns-in-Err-NoMemory-clause-ends : goal.returns-in-Err-NoMemory-clause-ends
 returns-in-Err-NoMemory-clause-ends g c = λ terms was.
-    subst (SeekFails c.args.part.now.start c.args.part.now.bytes (g.V.View.seen c.args.view.now)
+    rw c.from-in-Err-NoMemory.ensures
+    (subst (SeekFails c.args.part.now.start c.args.part.now.bytes (g.V.View.seen c.args.view.now)
     (g.V.View.seen c.seek.new.view))
-    c.in-Err-NoMemory.field-0-is c.in-Err-NoMemory.ensures.ends
+    c.in-Err-NoMemory.field-0-is c.in-Err-NoMemory.ensures.ends)
 
 -- the document is broken
 pub returns-in-Err-Broken-clause-ends : goal.returns-in-Err-Broken-clause-ends

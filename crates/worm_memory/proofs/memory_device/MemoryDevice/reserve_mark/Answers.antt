@@ -9,14 +9,14 @@ use Rattle.worm_memory.specs.Plans.{is_called_for, last_changes, last_faults, la
 use Rattle.worm_memory.proofs.memory_device.MemoryDevice.reserve_mark.Goals as goal
 use Rattle.worm_memory.proofs.memory_device.MemoryDevice.reserve_mark.Goals.{After-reserve}
 
-faults_are : (c : After-reserve) → last_faults c.reserve.new.self.items ≡ last_faults c.args.self.now.marks.items
+faults_are : (c : After-reserve) → last_faults c.reserve.new.items.items ≡ last_faults c.args.self.now.marks.items
 faults_are c = ap last_faults c.reserve.ensures.items
 
 foreign_writes_are : (c : After-reserve)
-    → last_foreign_writes c.reserve.new.self.items ≡ last_foreign_writes c.args.self.now.marks.items
+    → last_foreign_writes c.reserve.new.items.items ≡ last_foreign_writes c.args.self.now.marks.items
 foreign_writes_are c = ap last_foreign_writes c.reserve.ensures.items
 
-changes_are : (c : After-reserve) → last_changes c.reserve.new.self.items ≡ last_changes c.args.self.now.marks.items
+changes_are : (c : After-reserve) → last_changes c.reserve.new.items.items ≡ last_changes c.args.self.now.marks.items
 changes_are c = ap last_changes c.reserve.ensures.items
 
 pub invariant_of-self-clause-later : goal.invariant_of-self-clause-later
