@@ -51,6 +51,24 @@ impl KeptFronts {
         known
     }
 
+    /// What is kept at this number of a block's front: nothing, if it is of another block.
+    pub fn at(&self, at: usize, block: u32) -> KnownFront
+        requires { at < KEPT_FRONTS }
+        ensures block { result.block ≡ block }
+        ensures places { result.count ≤ ENTRY_PLACES }
+        ensures known { (image : Image) → AreFrontsKept image self.now → IsKnown image result }
+    {
+        let front = self.held[at];
+        if front.block == block && front.count <= ENTRY_PLACES {
+            return front;
+        }
+        KnownFront {
+            block,
+            count: 0,
+            greatest: 0,
+        }
+    }
+
     /// Keeps what is known of a front, in place of the one that was kept at this number.
     pub fn keep(&mut self, at: usize, front: KnownFront)
         requires { at < KEPT_FRONTS }

@@ -23,12 +23,17 @@ pub(crate) fn find_near<V: View>(
     ensures finds { FindsNear bounds head x (V.seen view.old) (V.seen view.new) result }
 {
     let reached = kept.hops.reached(head, x, bounds);
-    let mut front = kept.fronts.of_block(reached.block);
+    let level = usize::from(reached.level);
+    let mut front = kept.fronts.at(level, reached.block);
+    // Of a block of which nothing is known, a search reads no more than it has to.
+    if front.count == 0 && reached.level == 8 {
+        return Ok(None);
+    }
     if front.count > 0 && front.greatest >= x {
         return Ok(None);
     }
     let found = next_in_rows(view, &mut front, &mut kept.row, x);
-    kept.fronts.keep(usize::from(reached.level), front);
+    kept.fronts.keep(level, front);
     match found? {
         Some(next) if u64::from(next.key) < reached.bound => Ok(Some(next)),
         _ => Ok(None),

@@ -105,7 +105,7 @@ fn search<V: View>(
     let first = span(l, x);
     let to = first_pointer(view, bounds, block, first)?;
     let Some(target) = to else {
-        return look_on(view, fronts, bounds, block, l, first, bound);
+        return look_on(view, fronts, hops, bounds, block, l, first, bound);
     };
     hops.keep(KeptHop {
         block,
@@ -125,7 +125,7 @@ fn search<V: View>(
         first.level,
     ) {
         Ok(Looked::Found(entry)) => Ok(within(entry, bound)),
-        Ok(Looked::Nothing) => look_on(view, fronts, bounds, block, l, first, bound),
+        Ok(Looked::Nothing) => look_on(view, fronts, hops, bounds, block, l, first, bound),
         Ok(Looked::NoKey) => Err(leads_nowhere(block, &first, target)),
         Err(fault) => Err(fault),
     }
@@ -135,6 +135,7 @@ fn search<V: View>(
 fn look_on<V: View>(
     view: &mut V,
     fronts: &mut KeptFronts,
+    hops: &mut KeptHops,
     bounds: Bounds,
     block: u32,
     l: u32,
@@ -144,12 +145,23 @@ fn look_on<V: View>(
     requires inside { block + BLOCK_CELLS ≤ (V.seen view.old).cells }
     requires edge { bounds.edge ≤ (V.seen view.old).cells }
     requires kept { IsTrue (V.seen view.old).base.tells → AreFrontsKept (V.seen view.old).image fronts.old }
+    requires hops { IsTrue (V.seen view.old).base.tells → AreHopsKept (V.seen view.old).image hops.old }
     requires span { IsSpan l first }
     requires full { IsTrue (V.seen view.old).base.tells → HasFull (V.seen view.old).image block l }
     ensures kept { IsTrue (V.seen view.old).base.tells → AreFrontsKept (V.seen view.new).image fronts.new }
+    ensures hops { IsTrue (V.seen view.old).base.tells → AreHopsKept (V.seen view.new).image hops.new }
     ensures looks { LooksOn bounds block first.high bound (V.seen view.old) (V.seen view.new) result }
 {
-    match look_later(view, fronts, bounds, block, l, first, bound.min(1 << 32)) {
+    match look_later(
+        view,
+        fronts,
+        hops,
+        bounds,
+        block,
+        l,
+        first,
+        bound.min(1 << 32),
+    ) {
         Ok(Some(entry)) => Ok(within(entry, bound)),
         Ok(None) => Ok(Looked::Nothing),
         Err(fault) => Err(fault),

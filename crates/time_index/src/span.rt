@@ -10,8 +10,7 @@ use crate::matching::{Stamped, match_of};
 use crate::postings::next_posting;
 use crate::stamped::check_stamps;
 use cell_types::{Refusal, STAMPED_VERSION, memory};
-use jump_block::KeptFronts;
-use jump_index::Bounds;
+use jump_index::{Bounds, KeptSearch};
 use posting_list::Reach;
 use recovery_engine::{Ready, settle};
 use std::alloc::Global;
@@ -109,12 +108,12 @@ fn gather<V: View>(
     requires stamped { reach.now.volume.geometry.version ≡ STAMPED_VERSION }
     ensures { GathersTimes reach.now from to (V.seen view.old) (V.seen view.new) result }
 {
-    let mut fronts = KeptFronts::new();
+    let mut kept = KeptSearch::new();
     let mut matches = Vec::new(alloc);
     let mut last = None;
     let mut next = Some(from);
     while let Some(key) = next {
-        let Some(entry) = next_posting(view, &mut fronts, reach, key, to)? else {
+        let Some(entry) = next_posting(view, &mut kept, reach, key, to)? else {
             return Ok(matches);
         };
         let found = match_of(alloc, view, reach, &entry, last)?;

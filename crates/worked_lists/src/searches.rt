@@ -5,8 +5,8 @@ ghost use Rattle.worm_memory.specs.Device.{memory_of};
 use crate::answer::{Answer, of_entry};
 use crate::laying::Keys;
 use cell_types::Fault;
-use jump_block::{Entry, KeptFronts};
-use jump_index::{Bounds, find_geq, find_geq_from_kept};
+use jump_block::Entry;
+use jump_index::{Bounds, KeptSearch, find_geq, find_geq_from_kept};
 use worm_device::{Device, Direct, View};
 use worm_memory::MemoryDevice;
 
@@ -77,15 +77,15 @@ pub fn scan(device: &mut MemoryDevice, list: List) -> Answer {
     }
 }
 
-/// How many entries a list has, up to some thousands. What is known of fronts is kept from one to the next.
+/// How many entries a list has, up to some thousands. What is known of the list is kept from one to the next.
 fn count_entries<V: View>(view: &mut V, head: u32, bounds: Bounds) -> Result<u32, Fault>
     requires head { head + 256 ≤ (V.seen view.old).cells }
     requires edge { bounds.edge ≤ (V.seen view.old).cells }
 {
-    let mut fronts = KeptFronts::new();
+    let mut kept = KeptSearch::new();
     let mut key = 0_u32;
     for count in 0..5_000 {
-        match find_geq_from_kept(view, &mut fronts, head, key, bounds) {
+        match find_geq_from_kept(view, &mut kept, head, key, bounds) {
             Ok(Some(entry)) => key = entry.key.saturating_add(1),
             Ok(None) => return Ok(count),
             Err(fault) => return Err(fault),
@@ -99,14 +99,14 @@ pub fn are_found_or_named(device: &mut MemoryDevice, list: List, keys: &[u32], n
     list.is_within(device.cells()) && are_seen_or_named(&mut Direct::new(device), list, keys, named)
 }
 
-/// The same over a view. What is known of fronts is kept from one key to the next.
+/// The same over a view. What is known of the list is kept from one key to the next.
 fn are_seen_or_named<V: View>(view: &mut V, list: List, keys: &[u32], named: u32) -> bool
     requires head { list.head + 256 ≤ (V.seen view.old).cells }
     requires edge { list.bounds.edge ≤ (V.seen view.old).cells }
 {
-    let mut fronts = KeptFronts::new();
+    let mut kept = KeptSearch::new();
     for &key in keys {
-        let is_so = match find_geq_from_kept(view, &mut fronts, list.head, key, list.bounds) {
+        let is_so = match find_geq_from_kept(view, &mut kept, list.head, key, list.bounds) {
             Ok(Some(entry)) => entry.key == key,
             Err(Fault::Tampered(evidence)) => evidence.cell == named,
             Ok(None) | Err(Fault::Failed) => false,

@@ -2,6 +2,9 @@
 use Rattle.std.proofs.Common.{sym, arith, inl, inr, ◌∙◌}
 use Rattle.cell_types.proofs.Passed.{handed}
 use Rattle.worm_device.proofs.Resting.{viewed_self}
+use Rattle.volume_meaning.proofs.Extending.{holds_on}
+use Rattle.jump_block.proofs.Knowing.{key_on}
+use Rattle.jump_index.proofs.Ways.{hops_on}
 use Rattle.jump_index.proofs.Behind.{target_outside, target_fault, target_entry, at_key, target_first, target_without_key}
 use Rattle.jump_index.proofs.later.look_behind.Goals as goal
 use Rattle.jump_index.proofs.later.look_behind.Goals.{then-target-bounds-via-then-target-bounds, then-target-bounds-via-else-target-bounds+then-from, in-At+else-from-span, in_default}
@@ -30,6 +33,22 @@ returns-in_err-first-clause-looks g c =
           c.requires.span c.requires.full c.requires.jump
           (omega arith) (omega arith) c.in_err-first.field-0.0 f.ends;
     })
+
+pub returns-in_err-first-clause-hops : goal.returns-in_err-first-clause-hops
+returns-in_err-first-clause-hops g c = λ tells.
+    hops_on c.in_err-first.ensures.finds.viewed.image (c.requires.hops tells)
+
+pub returns-then-from-span-clause-hops : goal.returns-then-from-span-clause-hops
+returns-then-from-span-clause-hops g c = λ tells.
+    let f = c.in_ok-first.ensures.finds in
+    c.keep.ensures _ (hops_on f.viewed.image (c.requires.hops tells)) (record {
+      span = c.requires.span;
+      full = key_on f.viewed.image (c.requires.full tells);
+      jump = holds_on f.viewed.image (c.requires.jump tells);
+    })
+
+pub returns-clause-hops : goal.returns-clause-hops
+returns-clause-hops g c = λ tells. hops_on c.in_ok-first.ensures.finds.viewed.image (c.requires.hops tells)
 
 pub returns-then-from-span-clause-looks : goal.returns-then-from-span-clause-looks
 returns-then-from-span-clause-looks g c =

@@ -4,6 +4,7 @@ use Rattle.cell_types.proofs.Passed.{handed}
 use Rattle.jump_block.proofs.Knowing.{kept_on, key_on}
 use Rattle.jump_index.proofs.LookingLater.{span_is_wide, pointer_fault, blank_pointer, written_pointer}
 use Rattle.jump_index.proofs.Telling.{told, told_before}
+use Rattle.jump_index.proofs.Ways.{hops_on}
 use Rattle.jump_index.proofs.later.look_later.Goals as goal
 
 pub pointer-requires-clause-level : goal.pointer-requires-clause-level
@@ -19,6 +20,10 @@ pub returns-in_err-read-clause-kept : goal.returns-in_err-read-clause-kept
 returns-in_err-read-clause-kept g c =
     λ tells. kept_on c.pointer.ensures.viewed.image (c.loop-span.invariant.kept tells)
 
+pub returns-in_err-read-clause-hops : goal.returns-in_err-read-clause-hops
+returns-in_err-read-clause-hops g c =
+    λ tells. hops_on c.pointer.ensures.viewed.image (c.loop-span.invariant.hops tells)
+
 pub returns-in_err-read-clause-looks : goal.returns-in_err-read-clause-looks
 returns-in_err-read-clause-looks g c =
     rw (handed c.from_residual.result c.in_err-read.field-0.0 c.from_residual.ensures.1)
@@ -33,6 +38,11 @@ look_behind-requires-clause-kept g c = λ tells.
     let before = told_before c.loop-span.invariant.so_far.viewed (told_before c.pointer.ensures.viewed tells) in
     kept_on c.pointer.ensures.viewed.image (c.loop-span.invariant.kept before)
 
+pub look_behind-requires-clause-hops : goal.look_behind-requires-clause-hops
+look_behind-requires-clause-hops g c = λ tells.
+    let before = told_before c.loop-span.invariant.so_far.viewed (told_before c.pointer.ensures.viewed tells) in
+    hops_on c.pointer.ensures.viewed.image (c.loop-span.invariant.hops before)
+
 pub look_behind-requires-clause-span : goal.look_behind-requires-clause-span
 look_behind-requires-clause-span g c = c.next-span.ensures.is c.args.l c.loop-span.invariant.so_far.is
 
@@ -44,6 +54,10 @@ look_behind-requires-clause-full g c = λ tells.
 pub returns-in-Some-clause-kept : goal.returns-in-Some-clause-kept
 returns-in-Some-clause-kept g c = λ tells.
     c.look_behind.ensures.kept (told c.pointer.ensures.viewed (told c.loop-span.invariant.so_far.viewed tells))
+
+pub returns-in-Some-clause-hops : goal.returns-in-Some-clause-hops
+returns-in-Some-clause-hops g c = λ tells.
+    c.look_behind.ensures.hops (told c.pointer.ensures.viewed (told c.loop-span.invariant.so_far.viewed tells))
 
 pub returns-in-Some-clause-looks : goal.returns-in-Some-clause-looks
 returns-in-Some-clause-looks g c =
@@ -73,4 +87,5 @@ loop-span-preserved g c =
           (c.next-span.ensures.is c.args.l so_far.is) c.next-span.ensures.follows c.next-span.ensures.place
           (rw c.in_default.is at c.in_ok-read.ensures);
       kept = λ tells. kept_on c.pointer.ensures.viewed.image (c.loop-span.invariant.kept tells);
+      hops = λ tells. hops_on c.pointer.ensures.viewed.image (c.loop-span.invariant.hops tells);
     }

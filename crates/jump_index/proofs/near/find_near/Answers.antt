@@ -42,7 +42,7 @@ returns-in-Some-clause-finds g c =
           (λ tells. r.way _ (c.requires.kept tells).hops)
           (λ tells. r.way _ (hops_on n.viewed.image (c.requires.kept tells).hops)) r.from r.below
           (subst (λ (b : ℕ). FirstEnds c.args.x b (g.V.View.seen c.args.view.now)
-          (g.V.View.seen c.next_in_rows-found.new.view) (Ok (At c.in-Some.next))) c.of_block-front.ensures.block f.ends)
+          (g.V.View.seen c.next_in_rows-found.new.view) (Ok (At c.in-Some.next))) c.at-front.ensures.block f.ends)
           (omega arith);
     }
 

@@ -41,13 +41,23 @@ returns-in_err-to-clause-hops g t c = λ tells.
 
 pub returns-in_default-clause-hops : goal.returns-in_default-clause-hops
 returns-in_default-clause-hops g t c = λ tells.
-    hops_on c.look_on.ensures.looks.viewed.image (hops_on c.first_pointer.ensures.viewed.image
-    (hops_on c.look_here.ensures.looks.viewed.image (c.requires.hops tells)))
+    c.look_on.ensures.hops (told c.first_pointer.ensures.viewed (told c.look_here.ensures.looks.viewed tells))
 
 pub returns-in-Ok-Nothing-clause-hops : goal.returns-in-Ok-Nothing-clause-hops
 returns-in-Ok-Nothing-clause-hops g t c = λ tells.
-    hops_on c.look_on-in-Ok-Nothing.ensures.looks.viewed.image (c.search.ensures.hops
-    (told c.first_pointer.ensures.viewed (told c.look_here.ensures.looks.viewed tells)))
+    c.look_on-in-Ok-Nothing.ensures.hops (told c.search.ensures.looks.viewed (told c.first_pointer.ensures.viewed
+    (told c.look_here.ensures.looks.viewed tells)))
+
+pub look_on-requires-clause-hops : goal.look_on-requires-clause-hops
+look_on-requires-clause-hops g t c = λ tells.
+    let h = c.look_here.ensures.looks in
+    let f = c.first_pointer.ensures in
+    hops_on f.viewed.image (hops_on h.viewed.image (c.requires.hops (told_before h.viewed
+    (told_before f.viewed tells))))
+
+pub look_on-requires-in-Ok-Nothing-clause-hops : goal.look_on-requires-in-Ok-Nothing-clause-hops
+look_on-requires-in-Ok-Nothing-clause-hops g t c = λ tells.
+    c.search.ensures.hops (told_before c.search.ensures.looks.viewed tells)
 
 pub returns-in_err-to-clause-looks : goal.returns-in_err-to-clause-looks
 returns-in_err-to-clause-looks g t c =

@@ -39,7 +39,7 @@ returns-in_err-push g c =
 -- one more
 pub loop-next-preserved : goal.loop-next-preserved
 loop-next-preserved g c = record {
-  kept = keeps_on c.next_posting.new.fronts _ _ c.match_of.ensures.viewed c.next_posting.ensures.kept;
+  kept = keeps_on c.next_posting.new.kept _ _ c.match_of.ensures.viewed c.next_posting.ensures.kept;
   so_far = rw c.in_ok-push.ensures.items
       (one_more c.args.reach.now c.args.from c.args.to c.in-Some.key c.loop-next.matches.items c.loop-next.last
       (rw c.in-Some.is at c.loop-next.invariant.so_far) c.in-Some-2.entry
