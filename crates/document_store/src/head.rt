@@ -138,7 +138,8 @@ pub fn identifier_of_head(alloc: Global, head: &Head) -> Result<Text, AllocError
     requires { head.now.id_length ≤ length head.now.id }
     ensures { IfOk result (λ text. text ≡ id_of head.now) }
 {
-    let mut bytes = Vec::new(alloc);
-    bytes.extend_from_slice(&head.id[..usize::from(head.id_length)])?;
+    let written = &head.id[..usize::from(head.id_length)];
+    let mut bytes = Vec::with_capacity(alloc, written.len())?;
+    bytes.extend_from_slice(written)?;
     Ok(Text::new(bytes))
 }
