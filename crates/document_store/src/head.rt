@@ -139,7 +139,7 @@ pub fn identifier_of_head(alloc: Global, head: &Head) -> Result<Text, NoMemory>
     requires { head.now.id_length ≤ length head.now.id }
     ensures { IfOk result (λ text. text ≡ id_of head.now) }
 {
-    let mut bytes = Vec::new(alloc);
-    memory::extend_from_slice(&mut bytes, &head.id[..usize::from(head.id_length)])?;
+    let written = &head.id[..usize::from(head.id_length)];
+    let bytes = memory::from_slice(alloc, written)?;
     Ok(Text::new(bytes))
 }
