@@ -10,13 +10,13 @@ use byteorder::{BigEndian, ByteOrder};
 // The kinds of records, as the first byte of a cell.
 const VOLUME: u8 = 1;
 
-const RESERVE: u8 = 2;
+pub(crate) const RESERVE: u8 = 2;
 
-const COMMIT: u8 = 3;
+pub(crate) const COMMIT: u8 = 3;
 
 const ABANDON: u8 = 4;
 
-const DONE: u8 = 5;
+pub(crate) const DONE: u8 = 5;
 
 const POSTING: u8 = 6;
 
@@ -26,7 +26,7 @@ const BUCKET: u8 = 8;
 
 const CHILD: u8 = 9;
 
-const STAMP: u8 = 10;
+pub(crate) const STAMP: u8 = 10;
 
 /// The cell of a record that stands in the cell of this number.
 pub fn encode(value: RecordCell, address: u32) -> Cell
@@ -253,27 +253,31 @@ fn bucket_of(body: &[u8]) -> RecordCell
 }
 
 /// The number of a body that has one number and zeros.
-fn number_of(body: &[u8]) -> Option<u32>
+pub(crate) fn number_of(body: &[u8]) -> Option<u32>
     requires { length body.now ≡ 12 }
     ensures some { IfSome result (λ n.
         body.now ≡ (slice_index body.now 0 ∷ big_bytes 4 n) ++ replicate 7 0) }
     ensures none { IfNone result ((kind n : ℕ) → (kind ∷ big_bytes 4 n) ++ replicate 7 0 ≢ body.now) }
 {
-    if body[5..] != [0; 7] {
+    let (number, zeros) = two_numbers_of(body)?;
+    if zeros != 0 {
         return None;
     }
-    Some(number_at(&body[1..]))
+    Some(number)
 }
 
 /// The numbers of a body that has two numbers and zeros.
-fn two_numbers_of(body: &[u8]) -> Option<(u32, u32)>
+pub(crate) fn two_numbers_of(body: &[u8]) -> Option<(u32, u32)>
     requires { length body.now ≡ 12 }
     ensures some { IfSome result (λ ns.
         body.now ≡ (slice_index body.now 0 ∷ big_bytes 4 ns.0) ++ big_bytes 4 ns.1 ++ replicate 3 0) }
     ensures none { IfNone result ((kind m n : ℕ) →
         (kind ∷ big_bytes 4 m) ++ big_bytes 4 n ++ replicate 3 0 ≢ body.now) }
 {
-    if body[9..] != [0; 3] {
+    if body[9] != 0 {
+        return None;
+    }
+    if short_number_at(&body[10..]) != 0 {
         return None;
     }
     Some((number_at(&body[1..]), number_at(&body[5..])))

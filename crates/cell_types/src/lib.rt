@@ -13,7 +13,9 @@
 //!               13 bytes: the length of the identifier, `a`, `hello world`; then zeros
 //!
 //! `encode` makes the cell of a record, and `decode` gives the record back. For any other sixteen bytes it
-//! answers `None`. No cell is both a record and content. Nothing here reads or writes a device.
+//! answers `None`. Who knows which kind a cell has to be asks for that kind, which is cheaper: `posting_at`,
+//! and for the cells of a slot `decode_reserve`, `decode_commit`, `decode_done` and `decode_stamp`. No cell
+//! is both a record and content. Nothing here reads or writes a device.
 //!
 //! Stands on `byteorder`, for numbers in bytes, and `thiserror`, for the lines of refusals. Begin with
 //! `cell.rt`. Then `specs/Records.antt` says what each kind holds, and when it is well-formed.
@@ -27,6 +29,7 @@ mod held_bytes;
 pub mod memory;
 mod record_cell;
 mod refusal;
+mod slot_codec;
 
 pub use cell::Cell;
 pub use codec::{address_of, decode, encode, no_record_is_content, posting_at, records_are_one};
@@ -38,3 +41,4 @@ pub use geometry::{
 pub use held_bytes::Content;
 pub use record_cell::{MAX_STORED_BYTES, MIN_STORED_BYTES, RecordCell, is_well_formed};
 pub use refusal::{CopyRefusal, Evidence, Fault, NoMemory, Refusal, breach};
+pub use slot_codec::{decode_commit, decode_done, decode_reserve, decode_stamp};

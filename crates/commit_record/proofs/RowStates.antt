@@ -4,6 +4,7 @@ use Rattle.std.specs.Prelude.{IsTrue}
 use Rattle.std.proofs.lemmas.Option.{none-some}
 use Rattle.cell_types.specs.Layout.{Layout, reserve_at, spare_at}
 use Rattle.cell_types.specs.Records.{IsRecordCell}
+use Rattle.cell_types.specs.declared.geometry.TheConstants.{STAMPED_VERSION}
 use Rattle.cell_types.specs.declared.record_cell.RecordCell.{RecordCell}
 use Rattle.cell_types.specs.declared.record_cell.RecordCell.TheVariants.{Stamp}
 use Rattle.cell_types.specs.declared.refusal.Evidence.{Evidence}
@@ -13,7 +14,8 @@ use Rattle.volume_meaning.specs.Volumes.{Holds}
 use Rattle.volume_meaning.proofs.Extending.{holds_on}
 use Rattle.volume_meaning.proofs.Holding.{one_record_holds, some_is}
 use Rattle.worm_device.specs.Looks.{IsSeen}
-use Rattle.worm_device.specs.Views.{ViewState}
+use Rattle.worm_device.specs.ReadRows.{AreFoundBetween, ViewReadsRow}
+use Rattle.worm_device.specs.Views.{IsView, ViewState}
 use Rattle.commit_record.specs.SlotCells.{IsSpareOfRow, ReadsSlots, SeenStamp, SlotOfRow, StampOfRow}
 use Rattle.commit_record.specs.Stamps.{IsStampFound, IsStampIn}
 use Rattle.commit_record.specs.States.{StateEnds}
@@ -26,34 +28,55 @@ use Rattle.commit_record.proofs.RowSeen.{cell_seen, row_seen, stamp_seen}
 stamps : (a b : ℕ) → Stamp a ≡ Stamp b → a ≡ b
 stamps a b e = cc
 
+-- rows that have a slot's first three cells, and its spare cell where documents are stamped
 module _ (g : Layout) (n : ℕ) (row : List (Option (List ℕ))) {old new : ViewState} (reads : ReadsSlots n row old new)
-    (four : 4 ≤ length row) where
+    (three : 3 ≤ length row) (four : g.version ≡ STAMPED_VERSION → 4 ≤ length row) where
   -- what the row says of the spare cell was seen there
   spare_seen : (stamp : Option Found) → IsSpareOfRow g n row stamp → IsTrue old.base.tells
       → SeenStamp g n stamp old.image new.image
   spare_seen None plain tells = plain
   spare_seen (Some spare) is tells =
-      stamp_seen g n (reserve_at n) row old new reads.found refl spare is.0 four is.1 is.2 tells
+      stamp_seen g n (reserve_at n) row old new reads.found refl spare is.0 (four is.0) is.1 is.2 tells
 
   -- the state, as a look at the slot answers it
-  pub row_state : (state : SlotState) → SlotOfRow g n row (Ok state) → StateEnds g n old new (Ok state)
-  row_state state is =
+  pub short_row_state : (state : SlotState) → SlotOfRow g n row (Ok state) → StateEnds g n old new (Ok state)
+  short_row_state state is =
       let of = is.ends in
       state_seen g n old new of.reserve of.outcome of.done is.stamp reads.viewed reads.faults
       (row_seen g n (reserve_at n) row old new reads.found refl of.reserve of.outcome of.done is.stamp
-      (omega (arith, four)) of.reserve_of of.outcome_of of.done_of of.reserve_is of.outcome_is of.done_is
+      three of.reserve_of of.outcome_of of.done_of of.reserve_is of.outcome_is of.done_is
       (spare_seen is.stamp is.spare))
       state of.ends
 
   -- and the cell that is out of place
-  pub row_tampered : n < g.slots → (e : Evidence) → SlotOfRow g n row (Err e) → StateEnds g n old new (Err (Tampered e))
-  row_tampered less e is =
+  pub short_row_tampered : n < g.slots → (e : Evidence) → SlotOfRow g n row (Err e)
+      → StateEnds g n old new (Err (Tampered e))
+  short_row_tampered less e is =
       let of = is.ends in
       tampered_seen g n old new of.reserve of.outcome of.done is.stamp reads.viewed reads.faults
       (row_seen g n (reserve_at n) row old new reads.found refl of.reserve of.outcome of.done is.stamp
-      (omega (arith, four)) of.reserve_of of.outcome_of of.done_of of.reserve_is of.outcome_is of.done_is
+      three of.reserve_of of.outcome_of of.done_of of.reserve_is of.outcome_is of.done_is
       (spare_seen is.stamp is.spare))
       less reads.view e of.ends
+
+-- a row that a view read from a slot's reserve cell on
+pub row_reads : (n at : ℕ) (room row : List (Option (List ℕ))) {old new : ViewState} → at ≡ reserve_at n → IsView new
+    → ViewReadsRow at room row old new (Ok tt) → ReadsSlots n row old new
+row_reads n at room row {old} {new} here view read = record {
+  viewed = read.viewed;
+  view = view;
+  faults = read.cause;
+  found = subst (λ (k : ℕ). IsTrue old.base.tells → AreFoundBetween (length row) k row old.image new.image) here read.answer;
+}
+
+module _ (g : Layout) (n : ℕ) (row : List (Option (List ℕ))) {old new : ViewState} (reads : ReadsSlots n row old new)
+    (four : 4 ≤ length row) where
+  -- so it is with a row that has all four cells
+  pub row_state : (state : SlotState) → SlotOfRow g n row (Ok state) → StateEnds g n old new (Ok state)
+  row_state state is = short_row_state g n row reads (omega (arith, four)) (λ _. four) state is
+
+  pub row_tampered : n < g.slots → (e : Evidence) → SlotOfRow g n row (Err e) → StateEnds g n old new (Err (Tampered e))
+  row_tampered less e is = short_row_tampered g n row reads (omega (arith, four)) (λ _. four) less e is
 
   module _ (stamp : Option ℕ) (is : StampOfRow n row stamp) (tells : IsTrue old.base.tells) where
     seen : IsSeen old.image new.image (spare_at n) is.spare

@@ -113,6 +113,12 @@ IsSpareOfRow g n row None = g.version ≡ STAMPED_VERSION → ⊥
 IsSpareOfRow g n row (Some spare) =
     (g.version ≡ STAMPED_VERSION) × IsOfCell (spare_at n) spare × (slice_get row 3 ≡ Some (found_cell spare))
 
+-- the row says that slot n has a stamp, where documents are stamped
+pub record IsStampedByRow (g : Layout) (n : ℕ) (row : List (Option (List ℕ))) : Type 0 where
+  pub stamp : Option Found
+  pub spare : IsSpareOfRow g n row stamp
+  pub there : IsStampThere stamp
+
 -- what a row makes that begins with slot n's four cells: its state, or the first of them that is out of place
 pub record SlotOfRow (g : Layout) (n : ℕ) (row : List (Option (List ℕ))) (result : Result SlotState Evidence)
     : Type 0 where

@@ -46,6 +46,7 @@
 //! views. Begin with `slot.rt`. `specs/States.antt` says what its answers mean.
 #![tactic(auto)]
 
+mod done_row;
 mod laws;
 mod log_end;
 mod opening;

@@ -210,7 +210,7 @@ fn written_cell(found: &Found) -> Option<Cell>
 }
 
 /// The start and the number of the cells that a record reserves, where they lie in the pool.
-pub(crate) fn reserved_cells(geometry: &Geometry, held: &RecordCell) -> Option<(u32, u32)>
+fn reserved_cells(geometry: &Geometry, held: &RecordCell) -> Option<(u32, u32)>
     ensures some { IfSome result (λ r. (held.now ≡ Reserve r.0 r.1)
         × (pool_at geometry.now ≤ r.0) × (r.0 + r.1 ≤ geometry.now.cells) × (r.0 + r.1 ≤ MAX_CELLS)) }
     ensures none { IfNone result ((start length : ℕ) → held.now ≡ Reserve start length →
@@ -219,15 +219,23 @@ pub(crate) fn reserved_cells(geometry: &Geometry, held: &RecordCell) -> Option<(
     let RecordCell::Reserve { start, length } = *held else {
         return None;
     };
-    let cells = geometry.cells();
-    if start < geometry.pool_at() || cells < start || cells - start < length {
+    if !lies_in_pool(geometry, start, length) {
         return None;
     }
     Some((start, length))
 }
 
+/// Whether so many cells from this one on are cells of the pool.
+pub(crate) fn lies_in_pool(geometry: &Geometry, start: u32, length: u32) -> bool
+    ensures pool { IsTrue result ↔ (pool_at geometry.now ≤ start) × (start + length ≤ geometry.now.cells) }
+    ensures device { IsTrue result → start + length ≤ MAX_CELLS }
+{
+    let cells = geometry.cells();
+    geometry.pool_at() <= start && start <= cells && length <= cells - start
+}
+
 /// Whether the slot's stamp cell was looked at and holds no stamp.
-pub(crate) fn lacks_stamp(stamp: Option<Found>) -> bool
+fn lacks_stamp(stamp: Option<Found>) -> bool
     ensures missing { IsTrue result → IsStampMissing stamp }
     ensures there { result ≡ false → IsStampThere stamp }
 {

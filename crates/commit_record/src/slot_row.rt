@@ -1,16 +1,17 @@
 //! The state of a slot by its cells, which are neighbours and are read as one row, and its stamp.
-ghost use Rattle.std.specs.Prelude.{◌≡◌, ◌<◌, ◌≤◌, ◌+◌, IfOk, IfSome, Ok, length};
+ghost use Rattle.std.specs.Prelude.{◌≡◌, ◌<◌, ◌≤◌, ◌+◌, IfOk, length};
 ghost use Rattle.cell_types.specs.declared.geometry.TheConstants.{STAMPED_VERSION};
 ghost use Rattle.worm_device.specs.Looks.{IsOfCell};
 ghost use Rattle.worm_device.specs.Views.{Viewed};
 ghost use Rattle.commit_record.specs.Partition.{HasRoom};
-ghost use Rattle.commit_record.specs.SlotCells.{HoldsRecord, RowEnds, SlotOfRow, StampOfRow, found_cell};
+ghost use Rattle.commit_record.specs.SlotCells.{IsSpareOfRow, RowEnds, SlotOfRow, StampOfRow, found_cell};
 ghost use Rattle.commit_record.specs.States.{StateEnds};
 
+use crate::done_row::{done_of_row, held_stamp};
 use crate::slot::SlotState;
-use crate::slot_cells::{fits_into, found_there, lacks_stamp, reserved_cells, state_of_cells};
+use crate::slot_cells::{found_there, state_of_cells};
 use crate::stamp_cell::stamp_found;
-use cell_types::{Cell, Evidence, Fault, Geometry, RecordCell, STAMPED_VERSION, decode};
+use cell_types::{Cell, Evidence, Fault, Geometry, STAMPED_VERSION};
 use worm_device::{Found, View};
 
 /// The state of a slot on a volume whose documents are not stamped. It reads three cells.
@@ -31,7 +32,7 @@ pub(crate) fn plain_state<V: View>(
     let _done = geometry.done_at(slot);
     let mut row = [None; 3];
     view.read_row(geometry.reserve_at(slot), &mut row)?;
-    Ok(state_of_row(geometry, slot, &row, None)?)
+    Ok(state_of_row(geometry, slot, &row)?)
 }
 
 /// The same where documents are stamped. It reads four cells.
@@ -48,12 +49,11 @@ pub(crate) fn stamped_state<V: View>(
     ensures room { IfOk result (λ state. HasRoom state) }
     ensures ends { StateEnds geometry.now slot (V.seen view.old) (V.seen view.new) result }
 {
-    let spare_at = geometry.spare_at(slot);
+    // The last of them is a cell of the device, too.
+    let _spare = geometry.spare_at(slot);
     let mut row = [None; 4];
     view.read_row(geometry.reserve_at(slot), &mut row)?;
-    let spare = row[3];
-    let stamp = found_in(spare, spare_at);
-    Ok(state_of_row(geometry, slot, &row, Some(stamp))?)
+    Ok(state_of_row(geometry, slot, &row)?)
 }
 
 /// The state of a slot by its four cells, the first of a row that was read before, or the first of them that is out of
@@ -67,12 +67,7 @@ pub fn slot_of_row(
     requires four { 4 ≤ length row.now }
     ensures { SlotOfRow geometry.now slot row.now result }
 {
-    if geometry.version() != STAMPED_VERSION {
-        return state_of_row(geometry, slot, row, None);
-    }
-    let spare = row[3];
-    let stamp = found_in(spare, geometry.spare_at(slot));
-    state_of_row(geometry, slot, row, Some(stamp))
+    state_of_row(geometry, slot, row)
 }
 
 /// The stamp in the last of a slot's four cells, the first of a row that was read before, in seconds, and `None` where it
@@ -82,13 +77,45 @@ pub fn stamp_of_row(geometry: &Geometry, slot: u32, row: &[Option<Cell>]) -> Opt
     requires four { 4 ≤ length row.now }
     ensures { StampOfRow slot row.now result }
 {
+    let at = geometry.spare_at(slot);
     let spare = row[3];
-    stamp_found(found_in(spare, geometry.spare_at(slot)))
+    if let Some(seconds) = held_stamp(spare, at) {
+        return Some(seconds);
+    }
+    let other = row[3];
+    stamp_found(found_in(other, at))
 }
 
-/// The state that a row makes of a slot's reserve, outcome and done cell, or the first of them that is out of place. Most
-/// slots are done, so that is asked first.
-fn state_of_row(
+/// The state that a row makes of a slot, whose cells are its first, or the first of them that is out of place. Most slots
+/// are done, so that is asked first, and each cell then by the kind that it has to be.
+fn state_of_row(geometry: &Geometry, slot: u32, row: &[Option<Cell>]) -> Result<SlotState, Evidence>
+    requires slot { slot < geometry.now.slots }
+    requires three { 3 ≤ length row.now }
+    requires four { geometry.now.version ≡ STAMPED_VERSION → 4 ≤ length row.now }
+    ensures { SlotOfRow geometry.now slot row.now result }
+{
+    if let Some(state) = done_of_row(geometry, slot, row) {
+        return Ok(state);
+    }
+    let stamp = spare_of_row(geometry, slot, row);
+    found_in_row(geometry, slot, row, stamp)
+}
+
+/// What stands in the spare cell of a slot, if documents are stamped.
+fn spare_of_row(geometry: &Geometry, slot: u32, row: &[Option<Cell>]) -> Option<Found>
+    requires slot { slot < geometry.now.slots }
+    requires four { geometry.now.version ≡ STAMPED_VERSION → 4 ≤ length row.now }
+    ensures { IsSpareOfRow geometry.now slot row.now result }
+{
+    if geometry.version() != STAMPED_VERSION {
+        return None;
+    }
+    let spare = row[3];
+    Some(found_in(spare, geometry.spare_at(slot)))
+}
+
+/// The state that a row makes of a slot's reserve, outcome and done cell, or the first of them that is out of place.
+fn found_in_row(
     geometry: &Geometry,
     slot: u32,
     row: &[Option<Cell>],
@@ -98,9 +125,6 @@ fn state_of_row(
     requires three { 3 ≤ length row.now }
     ensures { RowEnds geometry.now slot row.now stamp result }
 {
-    if let Some(state) = done_of_row(geometry, slot, row, &stamp) {
-        return Ok(state);
-    }
     let first = row[0];
     let second = row[1];
     let third = row[2];
@@ -108,60 +132,6 @@ fn state_of_row(
     let outcome = found_in(second, geometry.outcome_at(slot));
     let done = found_in(third, geometry.done_at(slot));
     state_of_cells(geometry, slot, reserve, outcome, done, stamp)
-}
-
-/// The state of a slot that is done, where its cells say so, and `None` where it is in another state, or in none.
-fn done_of_row(
-    geometry: &Geometry,
-    slot: u32,
-    row: &[Option<Cell>],
-    stamp: &Option<Found>,
-) -> Option<SlotState>
-    requires slot { slot < geometry.now.slots }
-    requires three { 3 ≤ length row.now }
-    ensures { IfSome result (λ state. RowEnds geometry.now slot row.now stamp.now (Ok state)) }
-{
-    let first = row[0];
-    let second = row[1];
-    let third = row[2];
-    let Some(reserve) = record_in(first, geometry.reserve_at(slot)) else {
-        return None;
-    };
-    let Some((start, length)) = reserved_cells(geometry, &reserve) else {
-        return None;
-    };
-    let Some(RecordCell::Commit { bytes, journal }) = record_in(second, geometry.outcome_at(slot))
-    else {
-        return None;
-    };
-    let Some(RecordCell::Done { slot: named }) = record_in(third, geometry.done_at(slot)) else {
-        return None;
-    };
-    if named != slot {
-        return None;
-    }
-    if !fits_into(length, bytes, journal) {
-        return None;
-    }
-    if lacks_stamp(*stamp) {
-        return None;
-    }
-    Some(SlotState::Done {
-        start,
-        length,
-        bytes,
-        journal,
-    })
-}
-
-/// The record in a cell of this number, of which the row holds this, if it is one.
-fn record_in(held: Option<Cell>, at: u32) -> Option<RecordCell>
-    ensures { IfSome result (λ r. HoldsRecord at held r) }
-{
-    let Some(cell) = held else {
-        return None;
-    };
-    decode(cell, at)
 }
 
 /// What stands in a cell of this number, of which the row holds this.
