@@ -160,8 +160,8 @@ pub fn read_byte<V: View>(view: &mut V, position: &mut Position) -> Result<u8, C
 }
 
 /// The next bytes of a part that has one more, and how many they are: what is left of a cell that was begun, or else
-/// what the next 1,024 cells hold, or as many as there are. It reads these in one call, each of them once. Where nothing is
-/// left of a cell, these are the next 15,360 bytes, or all that the part still has.
+/// what the next 1,024 cells hold, or as many as there are. It reads these in one call, each of them once. Where nothing
+/// is left of a cell, these are the next 15,360 bytes, or all that the part still has.
 pub fn next_row<V: View>(
     view: &mut V,
     position: &mut Position,

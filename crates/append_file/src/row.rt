@@ -74,8 +74,8 @@ fn gather(bytes: u32, place: u32, row: &mut [u8]) -> Option<usize>
     Some(15 * last + more)
 }
 
-/// Moves the bytes of cell k of a row to their place among those that the row holds, if the cell is full, and says whether
-/// it is. Another cell comes behind it, and none of those changes.
+/// Moves the bytes of cell k of a row to their place among those that the row holds, if the cell is full, and says
+/// whether it is. Another cell comes behind it, and none of those changes.
 fn move_full(k: usize, row: &mut [u8]) -> bool
     requires behind { 16 * k + 17 ≤ length row.old }
     requires few { length row.old ≤ ROW_BYTES }
@@ -86,14 +86,14 @@ fn move_full(k: usize, row: &mut [u8]) -> bool
     if row[16 * k] != FULL_CELL {
         return false;
     }
-    // All sixteen lanes are moved. The last one is the first byte of the next cell, and the bytes of that cell go over it.
+    // The last of the sixteen lanes is the first byte of the next cell, and the bytes of that cell go over it.
     let held = u8x16::from_slice(&row[16 * k + 1..]);
     held.copy_to_slice(&mut row[15 * k..]);
     true
 }
 
-/// Moves what cell k of a row holds to its place among the bytes that the row holds, and answers how many bytes it is, if
-/// the cell is whole.
+/// Moves what cell k of a row holds to its place among the bytes that the row holds, and answers how many bytes it is,
+/// if the cell is whole.
 fn move_piece(bytes: u32, place: u32, k: usize, row: &mut [u8]) -> Option<usize>
     requires inside { 16 * k + 16 ≤ length row.old }
     requires few { length row.old ≤ ROW_BYTES }

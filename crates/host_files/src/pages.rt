@@ -230,8 +230,8 @@ impl Pages {
         Ok(())
     }
 
-    /// Copies the bytes of neighbouring cells, where all of them lie on one page and a hint tells where it is held. Says
-    /// whether it did.
+    /// Copies the bytes of neighbouring cells, where all of them lie on one page and a hint tells where it is held.
+    /// Says whether it did.
     pub(crate) fn copy_held(&self, at: u32, bytes: &mut [u8]) -> bool
         requires whole { length bytes.old % 16 ≡ 0 }
         ensures size { length bytes.new ≡ length bytes.old }

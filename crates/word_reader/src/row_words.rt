@@ -86,8 +86,9 @@ fn next_place(row: &[u8], from: usize, front: TermFront) -> usize
     ensures forward { from ≤ result }
     ensures none { (term : List ℕ) → IsFrontOf term front → StandsAtNone row.now from result term }
 {
+    let end = row.len().saturating_sub(LANES);
     let mut at = from;
-    while row.len() - at > LANES {
+    while at < end {
         let passed = places_before(row, at, front.first, front.behind, front.second);
         at += passed;
         if passed < LANES {

@@ -1,5 +1,5 @@
 -- The term stands at a place, or at none.
-use Rattle.std.proofs.Common.{rules, ◌≡◌, ◌+◌, ◌∙◌, length, sym, arith}
+use Rattle.std.proofs.Common.{rules, ◌≡◌, ◌∙◌, length, sym, arith}
 use Rattle.word_reader.proofs.Places.{none_at, none_on}
 use Rattle.word_reader.proofs.RowWords.{is_none, is_word}
 use Rattle.word_reader.proofs.Seeking.{true_false}

@@ -1,5 +1,5 @@
 -- The term stands at no place before this one.
-use Rattle.std.proofs.Common.{◌<◌, ◌≤◌, ◌+◌, ◌-◌, ℕ, length}
+use Rattle.std.proofs.Common.{◌≤◌, ◌+◌, ◌-◌, length}
 use Rattle.word_reader.specs.RowWords.{StandsAtNone}
 use Rattle.word_reader.proofs.row_words.has_word.Given as goal
 

@@ -1,5 +1,5 @@
 -- No term with this front stands at a place before this one.
-use Rattle.std.proofs.Common.{◌≡◌, ◌≤◌, ◌-◌, ℕ, List, length}
+use Rattle.std.proofs.Common.{◌≤◌, ◌-◌, ℕ, List, length}
 use Rattle.word_reader.specs.RowWords.{IsFrontOf, StandsAtNone}
 use Rattle.word_reader.proofs.row_words.next_place.Given as goal
 
