@@ -22,11 +22,12 @@ loop-slot-preserved-in_default g c =
 -- it is
 pub loop-slot-preserved : goal.loop-slot-preserved
 loop-slot-preserved g c =
-    let one = walk_one c.loop-slot.invariant c.slot_part.ensures.viewed (rw c.in-Some.is at c.in_ok-found.ensures.ends) in
+    let one = walk_one c.loop-slot.invariant c.slot_part.ensures.viewed c.in-Some.part
+    (omega (arith, c.loop-slot-test.true, c.requires.most)) (rw c.in-Some.is at c.in_ok-found.ensures.ends) in
     search (rules, one, c.in-Ok.ensures)
 
 -- all were asked
 pub returns-clause-ends : goal.returns-clause-ends
 returns-clause-ends g c =
     let at_end : c.loop-slot.slot ≡ c.args.horizon = omega (arith, c.loop-slot-test.false, c.loop-slot.auto.slot-end) in
-    walk_ends c.loop-slot.done c.loop-slot.invariant at_end
+    walk_ends c.loop-slot.parts c.loop-slot.invariant at_end
