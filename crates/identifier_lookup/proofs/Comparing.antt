@@ -1,6 +1,5 @@
 -- Comparing the document of a candidate's slot, over plain values.
 use Rattle.std.proofs.Common.{◌<◌, ◌≤◌, ◌+◌, inr, ℕ, List, Bool, true, false, Option, Some, None, Result, Ok, Err, refl, arith}
-use Rattle.std.specs.Prelude.{IsTrue}
 use Rattle.cell_types.specs.Layout.{Layout}
 use Rattle.cell_types.specs.declared.refusal.Fault.{Fault}
 use Rattle.cell_types.specs.declared.refusal.Fault.TheVariants.{Tampered, Failed}

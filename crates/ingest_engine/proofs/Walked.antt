@@ -26,7 +26,7 @@ use Rattle.identifier_lookup.specs.declared.answers.Walk.TheVariants as walks
 use Rattle.ingest_plan.specs.Planning.{IsLater, PlanEnds, PlansIndex}
 use Rattle.tamper_rules.proofs.Images.{same_image}
 use Rattle.ingest_plan.specs.declared.plan.PlannedIndex.{PlannedIndex}
-use Rattle.ingest_engine.specs.Indexing.{SeeksPathEnd, IsStampPast, LooksPast, PastEnds, PathLookEnds, PlanForEnds, PlansFor, WalksDevice, WalksOn}
+use Rattle.ingest_engine.specs.Indexing.{FindsSlot, SeeksPathEnd, IsStampPast, LooksPast, PastEnds, PathLookEnds, PlanForEnds, PlansFor, WalksDevice, WalksOn}
 use Rattle.ingest_engine.proofs.Trails.{has_trail_on, none_before}
 use Rattle.ingest_engine.specs.declared.indexing.PathEnd.{PathEnd}
 
@@ -84,8 +84,8 @@ module _ (r : Ready) (id : List ℕ) (entry mid new : DeviceState) (first : Call
   volume_mid volume =
       subst (λ (c : ℕ). IsVolume c mid.image r.volume.geometry) (sym first.cells) (volume_on first.image volume)
 
-  walks_since : (walk : Walk) → WalksOn r id mid new walk → WalksOn r id entry new walk
-  walks_since (walks.Found n) h = (
+  finds_since : (n : ℕ) → FindsSlot r id mid new n → FindsSlot r id entry new n
+  finds_since n h = (
     h.0,
     h.1 ∙ same,
     λ tells. let found = h.2 (told_mid tells) in record {
@@ -94,6 +94,10 @@ module _ (r : Ready) (id : List ℕ) (entry mid new : DeviceState) (first : Call
       alone = λ volume m trail. found.alone (volume_mid volume) m (has_trail_on first trail);
     },
   )
+
+  walks_since : (walk : Walk) → WalksOn r id mid new walk → WalksOn r id entry new walk
+  walks_since (walks.Found part) h = let found = finds_since part.slot (h.0, h.1, h.2) in
+      (found.0, found.1, found.2, h.3)
   walks_since (walks.End place level) h = (
     h.0,
     h.1,
@@ -124,7 +128,7 @@ module _ (r : Ready) (id : List ℕ) (entry mid new : DeviceState) (first : Call
     where
       why : (result : Result PathEnd Refusal) → PathLookEnds r id mid new result → PathLookEnds r id entry new result
       why (Ok end) h = walks_since (walks.End end.place end.level) h
-      why (Err (Duplicate n)) h = walks_since (walks.Found n) h
+      why (Err (Duplicate n)) h = finds_since n h
       why (Err PathFull) h = walks_since walks.PathFull h
       why (Err DeviceFault) h = omega (arith, h, same)
       why (Err (Tampered e)) h = λ tells. let found = h (told_mid tells) in record {

@@ -18,7 +18,7 @@ use Rattle.worm_device.specs.Views.{seen_directly}
 use Rattle.hash_tree.specs.declared.level.Level.{Level}
 use Rattle.hash_tree.specs.declared.path.Open.{Open}
 use Rattle.recovery_engine.specs.declared.settling.Ready.{Ready}
-use Rattle.identifier_lookup.specs.Walks.{IsWalkRule, LiesOnPath, WalkEnds, WalkNames}
+use Rattle.identifier_lookup.specs.Walks.{IsWalkRule, LiesOnPath, LookUpSlotEnds, WalkEnds, WalkNames}
 use Rattle.identifier_lookup.specs.declared.answers.Walk.{Walk}
 use Rattle.identifier_lookup.specs.declared.answers.Walk.TheVariants as walks
 use Rattle.ingest_plan.specs.Planning.{IsGrowthRule, IsLater, IsPlanned}
@@ -30,6 +30,11 @@ use Rattle.ingest_engine.specs.declared.indexing.PathEnd.{PathEnd}
 abbrev pub WalksOn : Ready → List ℕ → DeviceState → DeviceState → Walk → Type 0
 WalksOn r id entry new answer =
     WalkEnds r.volume.geometry r.horizon r.edge id (seen_directly entry 0) (seen_directly new 0) (Ok answer)
+
+-- it finds slot n, as a look-up does
+abbrev pub FindsSlot : Ready → List ℕ → DeviceState → DeviceState → ℕ → Type 0
+FindsSlot r id entry new n =
+    LookUpSlotEnds r.volume.geometry r.horizon r.edge id (seen_directly entry 0) (seen_directly new 0) (Ok (Some n))
 
 -- The identifier's path was walked to its end, which is this place of this level's node, and then the device was only
 -- read.
@@ -108,7 +113,7 @@ pub record WalksDevice (r : Ready) (id : List ℕ) (entry new : DeviceState) (re
 -- how a look for the path's end may end, and why
 abbrev pub PathLookEnds : Ready → List ℕ → DeviceState → DeviceState → Result PathEnd Refusal → Type 0
 PathLookEnds r id entry new (Ok end) = WalksOn r id entry new (walks.End end.place end.level)
-PathLookEnds r id entry new (Err (Duplicate n)) = WalksOn r id entry new (walks.Found n)
+PathLookEnds r id entry new (Err (Duplicate n)) = FindsSlot r id entry new n
 PathLookEnds r id entry new (Err PathFull) = WalksOn r id entry new walks.PathFull
 PathLookEnds r id entry new (Err DeviceFault) = Rose entry.faults new.faults
 PathLookEnds r id entry new (Err (Tampered e)) =
@@ -169,8 +174,7 @@ abbrev pub PlanForEnds
     : Ready → List ℕ → Option ℕ → List ℕ → DeviceState → DeviceState → Result PlannedIndex Refusal → Type 0
 PlanForEnds r id stamp body entry new (Ok index) = HasIndex r id stamp body index entry new
 PlanForEnds r id stamp body entry new (Err (StampTooEarly given last)) = IsTooEarly r stamp given last entry new
-PlanForEnds r id stamp body entry new (Err (Duplicate n)) = IsStampPast r stamp entry
-    × WalksOn r id entry new (walks.Found n)
+PlanForEnds r id stamp body entry new (Err (Duplicate n)) = IsStampPast r stamp entry × FindsSlot r id entry new n
 PlanForEnds r id stamp body entry new (Err PathFull) = IsStampPast r stamp entry × WalksOn r id entry new walks.PathFull
 PlanForEnds r id stamp body entry new (Err (TooManyTerms list count)) = HasTooMany r id stamp body list count entry new
 PlanForEnds r id stamp body entry new (Err DeviceFault) = Rose entry.faults new.faults

@@ -62,7 +62,7 @@ fn path_end<D: Device>(device: &mut D, ready: &Ready, id: &[u8]) -> Result<PathE
     ensures { SeeksPathEnd ready.now id.now (D.state device.old) (D.state device.new) result }
 {
     match walk_on_device(device, ready, id)? {
-        Walk::Found(slot) => Err(Refusal::Duplicate(slot)),
+        Walk::Found(part) => Err(Refusal::Duplicate(part.slot)),
         Walk::End(place, level) => Ok(PathEnd { place, level }),
         Walk::PathFull => Err(Refusal::PathFull),
     }

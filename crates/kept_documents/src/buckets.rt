@@ -6,7 +6,7 @@ ghost use Rattle.kept_documents.specs.HashTrails.{AsksPassed, HasFingerprint, Is
 use crate::node_cells::HeldBucket;
 use crate::refuted::refuted;
 use cell_types::Volume;
-use document_store::{part_has_identifier, slot_part};
+use document_store::{same_identifier, slot_part};
 use worm_device::{Failed, View};
 
 /// Whether the bucket has the first seven bytes of the digest.
@@ -51,7 +51,7 @@ pub(crate) fn is_passed<V: View>(
     let Some(part) = found else {
         return Ok(false);
     };
-    match part_has_identifier(view, &volume.geometry, &part, id) {
+    match same_identifier(view, &volume.geometry, &part, id) {
         Ok(true) => Ok(false),
         Ok(false) => Ok(true),
         Err(fault) => refuted(fault),

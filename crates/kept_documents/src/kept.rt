@@ -1,17 +1,29 @@
 //! Whether a document is kept.
-ghost use Rattle.std.specs.Prelude.{◌≡◌, ◌<◌, IsTrue};
-ghost use Rattle.document_store.specs.Looks.{HoldsIdentifier};
-ghost use Rattle.kept_documents.specs.Kept.{AsksKept, AsksKeptIn, IsRefused};
+ghost use Rattle.std.specs.Prelude.{◌≡◌, ◌<◌};
+ghost use Rattle.document_store.specs.Looks.{HasPart};
+ghost use Rattle.kept_documents.specs.Kept.{AsksDocument, AsksDocumentIn, AsksKept, IsRefused};
 
 use crate::fault::AskFault;
 use crate::indexed::is_indexed;
-use cell_types::{Fault, Volume, memory};
+use cell_types::{Fault, Volume};
 use commit_record::{OpenRefusal, open};
-use document_store::{BodyFault, body_into, part_has_identifier, slot_part};
-use host_ports::MemorySink;
+use document_store::{BodyFault, Part, slot_part, take_part};
+use host_ports::Gathered;
 use std::alloc::Global;
 use volume_meaning::MAX_BODY_BYTES;
 use worm_device::View;
+
+/// A document that is kept, as it was read.
+#[derive(Drop)]
+pub struct KeptDocument {
+    /// What cell 0 states.
+    pub volume: Volume,
+    /// Where it lies.
+    pub part: Part,
+    pub body: Gathered,
+    /// How many bytes the body has.
+    pub bytes: u32,
+}
 
 /// How many bytes the body of the document has that is kept in this slot with this identifier, `None` where none is, or
 /// where cell 0 states no volume of the view's size. Each slot and each identifier may be asked for.
@@ -28,8 +40,25 @@ pub fn is_kept<V: View>(
     requires { 0 < (V.seen view.old).cells }
     ensures { AsksKept slot id.now (V.seen view.old) (V.seen view.new) result }
 {
+    match kept_document(alloc, view, slot, id) {
+        Ok(Some(document)) => Ok(Some(document.bytes)),
+        Ok(None) => Ok(None),
+        Err(why) => Err(why),
+    }
+}
+
+/// The document itself, of which each cell is read once at most. The errors are those of `is_kept`.
+pub fn kept_document<V: View>(
+    alloc: Global,
+    view: &mut V,
+    slot: u32,
+    id: &[u8],
+) -> Result<Option<KeptDocument>, AskFault>
+    requires { 0 < (V.seen view.old).cells }
+    ensures { AsksDocument slot id.now (V.seen view.old) (V.seen view.new) result }
+{
     match open(view) {
-        Ok(volume) => kept_in(alloc, view, &volume, slot, id),
+        Ok(volume) => kept_in(alloc, view, volume, slot, id),
         Err(OpenRefusal::ReadFault) => Err(AskFault::ReadFault),
         Err(_) => Ok(None),
     }
@@ -39,68 +68,70 @@ pub fn is_kept<V: View>(
 fn kept_in<V: View>(
     alloc: Global,
     view: &mut V,
-    volume: &Volume,
+    volume: Volume,
     slot: u32,
     id: &[u8],
-) -> Result<Option<u32>, AskFault>
-    requires size { volume.now.geometry.cells ≡ (V.seen view.old).cells }
-    ensures { AsksKeptIn volume.now.geometry slot id.now (V.seen view.old) (V.seen view.new) result }
+) -> Result<Option<KeptDocument>, AskFault>
+    requires size { volume.geometry.cells ≡ (V.seen view.old).cells }
+    ensures { AsksDocumentIn volume slot id.now (V.seen view.old) (V.seen view.new) result }
 {
     if slot >= volume.geometry.slots() {
         return Ok(None);
     }
-    let found = match slot_part(view, volume, slot) {
+    let found = match slot_part(view, &volume, slot) {
         Ok(found) => found,
         Err(fault) => return refused(fault),
     };
     let Some(part) = found else {
         return Ok(None);
     };
-    let same = match part_has_identifier(view, &volume.geometry, &part, id) {
-        Ok(same) => same,
-        Err(fault) => return refused(fault),
-    };
-    if !same {
-        return Ok(None);
-    }
-    kept_body(alloc, view, volume, slot, id)
+    kept_part(alloc, view, volume, part, id)
 }
 
-/// The same of a slot that holds a document with this identifier.
-fn kept_body<V: View>(
+/// The same of a part that was found.
+fn kept_part<V: View>(
     alloc: Global,
     view: &mut V,
-    volume: &Volume,
-    slot: u32,
+    volume: Volume,
+    part: Part,
     id: &[u8],
-) -> Result<Option<u32>, AskFault>
-    requires slot { slot < volume.now.geometry.slots }
-    requires size { volume.now.geometry.cells ≡ (V.seen view.old).cells }
-    requires holds { IsTrue (V.seen view.old).base.tells
-        → HoldsIdentifier volume.now.geometry (V.seen view.old).image slot id.now }
-    ensures { AsksKeptIn volume.now.geometry slot id.now (V.seen view.old) (V.seen view.new) result }
+) -> Result<Option<KeptDocument>, AskFault>
+    requires size { volume.geometry.cells ≡ (V.seen view.old).cells }
+    requires part { HasPart volume.geometry (V.seen view.old) part }
+    ensures { AsksDocumentIn volume part.slot id.now (V.seen view.old) (V.seen view.new) result }
 {
-    let mut body = MemorySink::new(alloc);
-    body.reserve(MAX_BODY_BYTES as u32)?;
-    let bytes = match body_into(view, volume, slot, &mut body) {
-        Ok(bytes) => bytes,
+    let mut body = Gathered::with_room(alloc, MAX_BODY_BYTES)?;
+    let head = match take_part(view, &volume.geometry, &part, &mut body) {
+        Ok(head) => head,
         Err(BodyFault::Tampered(evidence)) => return refused(Fault::Tampered(evidence)),
         Err(BodyFault::ReadFault) => return Err(AskFault::ReadFault),
-        // There was room for each body: none was to be had after all.
-        Err(BodyFault::SinkFault) => return Err(AskFault::from(memory::lacked_elsewhere())),
+        Err(BodyFault::SinkFault) => {
+            let Some(lack) = body.lack() else {
+                unreachable!()
+            };
+            return Err(AskFault::NoMemory(lack));
+        }
     };
-    let led = match is_indexed(alloc, view, volume, slot, id, body.bytes()) {
+    if &head.id[..usize::from(head.id_length)] != id {
+        return Ok(None);
+    }
+    let led = match is_indexed(alloc, view, &volume, part.slot, id, body.bytes()) {
         Ok(led) => led,
         Err(why) => return Err(why),
     };
     if !led {
         return Ok(None);
     }
-    Ok(Some(bytes))
+    Ok(Some(KeptDocument {
+        volume,
+        part,
+        body,
+        bytes: head.body_length,
+    }))
 }
 
 /// Where a cell of the slot is out of order nothing is kept in it. A read that failed says nothing.
-fn refused(fault: Fault) -> Result<Option<u32>, AskFault>
+fn refused(fault: Fault) -> Result<Option<KeptDocument>, AskFault>
     ensures { IsRefused fault result }
 {
     match fault {

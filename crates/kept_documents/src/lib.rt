@@ -15,8 +15,8 @@
 //! writes meanwhile, and where nobody does, both are said of one image.
 //!
 //! A document is kept where it stands, its postings exist, each of them has a trail, and it has a hash trail. Each part
-//! is asked in turn, and the first no is the answer. `is_kept` takes memory for the body and its words; the others take
-//! none.
+//! is asked in turn, and the first no is the answer. `is_kept` takes memory for the body and its words, and reads each cell
+//! of the document once; `kept_document` is the same and hands on what was read. The others take no memory.
 //!
 //! Stands on `jump_block` (one block), `hash_tree` (half bytes), `document_store` (documents), `word_reader` and
 //! `term_tags` (postings). Begin with `kept.rt`, and of trails with `trails.rt`; `specs/Kept.antt` says what an answer
@@ -38,7 +38,7 @@ mod wanted;
 pub use buckets::{has_fingerprint, is_own};
 pub use fault::AskFault;
 pub use hash_trails::has_hash_trail;
-pub use kept::is_kept;
+pub use kept::{KeptDocument, is_kept, kept_document};
 pub use node_cells::{HeldBucket, bucket_at, child_at};
 pub use stamps::{SlotStamp, slot_stamp};
 pub use trails::has_trail;

@@ -1,14 +1,13 @@
 //! The bytes of documents.
-ghost use Rattle.std.specs.Prelude.{◌≡◌, ◌<◌, ◌≤◌, ◌+◌, IsTrue};
+ghost use Rattle.std.specs.Prelude.{◌≡◌, ◌≤◌, ◌+◌, ◌*◌};
 ghost use Rattle.append_file.specs.Reading.{IsPosition, NextByteEnds, NextRowEnds};
-ghost use Rattle.document_store.specs.Looks.{BodyEnds, CheckEnds, ReadsOnce, ReadsTwice};
-ghost use Rattle.volume_meaning.specs.Slots.{IsDoneSlot};
+ghost use Rattle.document_store.specs.Looks.{BodyEnds, CheckEnds, HasPart};
 ghost use Rattle.volume_meaning.specs.Slots as slots;
 ghost use Rattle.worm_device.specs.Views.{Viewed};
 
 use append_file::{ContentFault, Position, ROW_BYTES, next_byte, next_row};
-use cell_types::{Fault, Volume};
-use document_store::{BodyFault, Stored, body_into, check};
+use cell_types::{Fault, Geometry};
+use document_store::{BodyFault, Part, Stored, body_into, check};
 use host_ports::Sink;
 use worm_device::View;
 
@@ -50,33 +49,31 @@ pub fn next_row_again<V: View>(
 }
 
 /// `check`.
-pub fn check_again<V: View>(view: &mut V, volume: &Volume, slot: u32) -> Result<Stored, Fault>
-    requires slot { slot < volume.now.geometry.slots }
-    requires size { volume.now.geometry.cells ≤ (V.seen view.old).cells }
-    requires done { IsTrue (V.seen view.old).base.tells
-        → IsDoneSlot volume.now.geometry (V.seen view.old).image slot }
+pub fn check_again<V: View>(view: &mut V, geometry: &Geometry, part: &Part) -> Result<Stored, Fault>
+    requires size { geometry.now.cells ≤ (V.seen view.old).cells }
+    requires part { HasPart geometry.now (V.seen view.old) part.now }
     ensures viewed { Viewed (V.seen view.old) (V.seen view.new) }
-    ensures reads { ReadsOnce volume.now.geometry slot (V.seen view.old) (V.seen view.new) }
-    ensures ends { CheckEnds volume.now.geometry slot (V.seen view.old) (V.seen view.new) result }
+    ensures reads { (V.seen view.new).base.reads
+        ≤ (V.seen view.old).base.reads + slots.cells_for part.now.bytes }
+    ensures ends { CheckEnds geometry.now part.now.slot (V.seen view.old) (V.seen view.new) result }
 {
-    check(view, volume, slot)
+    check(view, geometry, part)
 }
 
 /// `body_into`.
 pub fn body_into_again<V: View, K: Sink>(
     view: &mut V,
-    volume: &Volume,
-    slot: u32,
+    geometry: &Geometry,
+    part: &Part,
     sink: &mut K,
 ) -> Result<u32, BodyFault>
-    requires slot { slot < volume.now.geometry.slots }
-    requires size { volume.now.geometry.cells ≤ (V.seen view.old).cells }
-    requires done { IsTrue (V.seen view.old).base.tells
-        → IsDoneSlot volume.now.geometry (V.seen view.old).image slot }
+    requires size { geometry.now.cells ≤ (V.seen view.old).cells }
+    requires part { HasPart geometry.now (V.seen view.old) part.now }
     ensures viewed { Viewed (V.seen view.old) (V.seen view.new) }
-    ensures reads { ReadsTwice volume.now.geometry slot (V.seen view.old) (V.seen view.new) }
-    ensures ends { BodyEnds volume.now.geometry slot (V.seen view.old) (V.seen view.new) (K.state sink.old)
+    ensures reads { (V.seen view.new).base.reads
+        ≤ (V.seen view.old).base.reads + 2 * slots.cells_for part.now.bytes }
+    ensures ends { BodyEnds geometry.now part.now.slot (V.seen view.old) (V.seen view.new) (K.state sink.old)
         (K.state sink.new) result }
 {
-    body_into(view, volume, slot, sink)
+    body_into(view, geometry, part, sink)
 }

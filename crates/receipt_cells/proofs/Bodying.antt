@@ -2,12 +2,10 @@
 use Rattle.std.proofs.Common.{◌≡◌, ℕ, List, Option, Some, None, Result, Ok, Err, sym, subst}
 use Rattle.std.specs.Prelude.{IsTrue}
 use Rattle.cell_types.specs.Layout.{Layout}
-use Rattle.cell_types.specs.declared.refusal.Evidence.{Evidence}
-use Rattle.cell_types.specs.declared.refusal.Fault.TheVariants as faults
 use Rattle.volume_meaning.proofs.Stamps.{one, stamp_on}
 use Rattle.worm_device.specs.Views.{ViewState, Viewed}
 use Rattle.worm_device.proofs.Resting.{viewed_then}
-use Rattle.document_store.specs.Looks.{HoldsBody, LookFails}
+use Rattle.document_store.specs.Looks.{HoldsBody}
 use Rattle.document_store.proofs.Holding.{held_is_one, held_on}
 use Rattle.jump_block.proofs.Counting.{rose_later}
 use Rattle.kept_documents.specs.Postings.{AreTrailed}
@@ -16,7 +14,6 @@ use Rattle.kept_documents.specs.declared.fault.AskFault.{AskFault}
 use Rattle.kept_documents.specs.declared.fault.AskFault.TheVariants.{NoMemory, ReadFault}
 use Rattle.kept_documents.specs.declared.stamps.SlotStamp.{SlotStamp}
 use Rattle.kept_documents.proofs.Indexing.{trailed_later}
-use Rattle.kept_documents.proofs.PassedBuckets.{names_none}
 use Rattle.receipt_cells.specs.Bodies.{ListsBody, ListsStamped}
 use Rattle.receipt_cells.specs.Needed.{ListsJust}
 use Rattle.receipt_cells.specs.Postings.{IsOfPostings, ListsPostings}
@@ -55,13 +52,6 @@ module _ (g : Layout) (n : ℕ) (body : List ℕ) (old mid : ViewState) (listed 
   }
 
 module _ (g : Layout) (n : ℕ) (old mid : ViewState) (listed : List (ℕ × List ℕ)) (viewed : Viewed old mid) where
-  -- the document is broken, so there was none
-  pub broken : (e : Evidence) → LookFails g n old mid (faults.Tampered e) → ListsBody g n old mid listed listed (Ok _)
-  broken e fails = record {
-    viewed = viewed;
-    ends = λ tells id body holds stamp is exist trailed. absurd (names_none viewed (fails.2 tells) holds);
-  }
-
   -- its body was read
   pub with_body : (body : List ℕ) (new : ViewState) (later : List (ℕ × List ℕ)) (result : Result Unit AskFault)
       → (IsTrue mid.base.tells → HoldsBody g mid.image n body) → ListsStamped g n body mid new listed later result

@@ -18,13 +18,13 @@ use Rattle.worm_device.specs.Views.{ViewState, Viewed}
 use Rattle.worm_device.proofs.Images.{extends_then}
 use Rattle.worm_device.proofs.Resting.{viewed_then}
 use Rattle.jump_block.proofs.Counting as counts
-use Rattle.document_store.specs.Looks.{IsPartOf, LookFails, PartEnds}
+use Rattle.document_store.specs.Looks.{HasPart, IsPartOf, LookFails, PartEnds}
 use Rattle.document_store.specs.Standing.{HoldsDocument}
 use Rattle.document_store.specs.declared.part.Part.{Part}
 use Rattle.document_store.proofs.Holding.{held_in_part, held_is_done, held_on, one_part, part_on, stands_held}
 use Rattle.kept_documents.specs.declared.fault.AskFault.{AskFault}
 use Rattle.kept_documents.specs.declared.fault.AskFault.TheVariants.{NoMemory, ReadFault}
-use Rattle.kept_documents.proofs.PassedBuckets.{names_none}
+use Rattle.kept_documents.proofs.PassedBuckets.{names_none, stands_later, volume_later}
 use Rattle.receipt_cells.specs.Needed.{SlotRests, commit_cell, document_cell, done_cell, reserve_cell, stamp_cell}
 use Rattle.receipt_cells.specs.Path.{AreLogCells, IsUnlisted, ListFails, ListsSlot, SlotListEnds}
 use Rattle.receipt_cells.specs.Written.{IsInRow, ListsCells, ListsWritten}
@@ -160,36 +160,47 @@ module _ (g : Layout) (n count : ℕ) (part : Part) (are : AreLogCells g count) 
       )
 
 -- the log and the document were listed
-pub slot_listed : (g : Layout) (n at count most : ℕ) (old mid between new : ViewState)
-    (listed middle later : List (ℕ × List ℕ)) (part : Part) (result : Result Unit AskFault) → at ≡ reserve_at n
-    → AreLogCells g count → most ≡ cells_for part.bytes → Viewed old mid → PartEnds g n old mid (Ok (Some part))
-    → ListsCells (IsInRow at (at + count)) mid between listed middle (Ok tt)
+pub slot_listed : (g : Layout) (at count most : ℕ) (old between new : ViewState)
+    (listed middle later : List (ℕ × List ℕ)) (part : Part) (result : Result Unit AskFault) → at ≡ reserve_at part.slot
+    → AreLogCells g count → most ≡ cells_for part.bytes → HasPart g old part
+    → ListsCells (IsInRow at (at + count)) old between listed middle (Ok tt)
     → ListsCells (IsInRow part.start (part.start + most)) between new middle later result
-    → ListsSlot g n old new listed later result
-slot_listed g n at count most old mid between new listed middle later part result place are all looked found log rest =
-    record {
-      viewed = viewed_then looked (viewed_then log.viewed rest.viewed);
-      ends = go result rest;
-    }
+    → ListsSlot g part.slot old new listed later result
+slot_listed g at count most old between new listed middle later part result place are all has log rest =
+    record { viewed = viewed_then log.viewed rest.viewed; ends = go result rest }
   where
     go : (result : Result Unit AskFault)
         → ListsCells (IsInRow part.start (part.start + most)) between new middle later result
-        → SlotListEnds g n old new listed later result
+        → SlotListEnds g part.slot old new listed later result
     go (Ok u) rest = λ tells volume id body stands.
-        let is = found.3 tells in
-        let told : IsTrue mid.base.tells = subst IsTrue (sym looked.called.tells) tells in
-        let said : IsTrue between.base.tells = subst IsTrue (sym log.viewed.called.tells) told in
+        let is = has.is tells in
+        let said : IsTrue between.base.tells = subst IsTrue (sym log.viewed.called.tells) tells in
         let e = extends_then log.viewed.image rest.viewed.image in
-        let held = held_on looked.image (stands_held g old.cells old.image n id body volume stands) in
-        let first = subst (λ (a : ℕ). ListsWritten (IsInRow a (a + count)) mid.image between.image listed middle) place
-        (log.ends told) in
+        let held = stands_held g old.cells old.image part.slot id body volume stands in
+        let first = subst (λ (a : ℕ). ListsWritten (IsInRow a (a + count)) old.image between.image listed middle) place
+        (log.ends tells) in
         let second = subst
         (λ (m : ℕ). ListsWritten (IsInRow part.start (part.start + m)) between.image new.image middle later) all
         (rest.ends said) in
-        just_of (from_either g n count part are mid.image new.image e is)
-        (to_either g n count part are mid.image new.image e is id body held)
+        just_of (from_either g part.slot count part are old.image new.image e is)
+        (to_either g part.slot count part are old.image new.image e is id body held)
         (written_then log.viewed.image rest.viewed.image first second)
-    go (Err why) rest = fails_later old between new why (viewed_then looked log.viewed) (cells_fail why rest)
+    go (Err why) rest = fails_later old between new why log.viewed (cells_fail why rest)
+
+-- or they were of the part that was found
+pub slot_from : (g : Layout) (n m : ℕ) (old mid new : ViewState) (listed later : List (ℕ × List ℕ))
+    (result : Result Unit AskFault) → Viewed old mid → m ≡ n → ListsSlot g m mid new listed later result
+    → ListsSlot g n old new listed later result
+slot_from g n m old mid new listed later result looked same lists = record {
+  viewed = viewed_then looked lists.viewed;
+  ends = go result (subst (λ (k : ℕ). SlotListEnds g k mid new listed later result) same lists.ends);
+} where
+  go : (result : Result Unit AskFault) → SlotListEnds g n mid new listed later result
+      → SlotListEnds g n old new listed later result
+  go (Ok u) ends = λ tells volume id body stands.
+      ends (subst IsTrue (sym looked.called.tells) tells) (volume_later looked volume) id body
+      (stands_later looked stands)
+  go (Err why) ends = fails_later old mid new why looked ends
 
 -- the log of a slot lies before the pool
 pub log_fits : (g : Layout) (n count : ℕ) → IsLayout g → AreLogCells g count → n < g.slots

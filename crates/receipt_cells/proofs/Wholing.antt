@@ -8,7 +8,6 @@ use Rattle.volume_meaning.specs.Keeping.{IsKept, sought_in}
 use Rattle.volume_meaning.specs.Postings.{IsPostingOf}
 use Rattle.volume_meaning.specs.Slots.{IsDoneSlot, IsStampOf}
 use Rattle.volume_meaning.specs.Volumes.{IsVolume, IsWritten}
-use Rattle.volume_meaning.proofs.Extending.{done_on}
 use Rattle.volume_meaning.proofs.Stamps.{one, stamp_on}
 use Rattle.volume_meaning.proofs.Trails.{trail_on}
 use Rattle.worm_device.specs.Views.{ViewState, Viewed}
@@ -165,13 +164,3 @@ module _ (g : Layout) (n : ℕ) (id : List ℕ) (old first : ViewState) (l0 l1 :
           viewed = viewed_then to_third lists.viewed;
           ends = λ tells volume body kept. all_parts lists tells volume body kept;
         }
-
--- a slot that is done stays done
-pub done_slot_on : {g : Layout} {old new : Image} {n : ℕ} → Extends old new → IsDoneSlot g old n → IsDoneSlot g new n
-done_slot_on e d = record {
-  start = d.start;
-  length = d.length;
-  bytes = d.bytes;
-  journal = d.journal;
-  done = done_on e d.done;
-}

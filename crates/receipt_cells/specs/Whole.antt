@@ -28,26 +28,6 @@ pub record ListsDocument (g : Layout) (n : ℕ) (id : List ℕ) (old new : ViewS
   pub viewed : Viewed old new
   pub ends : DocumentEnds g n id old new listed later result
 
--- a body is kept with this identifier in slot n
-pub record KeepsSome (s : ViewState) (n : ℕ) (id : List ℕ) : Type 0 where
-  pub body : List ℕ
-  pub kept : Kept s.cells s.image (document_of n id body ∷ [])
-
--- the same of each volume that cell 0 may have stated at entry
-abbrev pub FoundEnds : ℕ → List ℕ → ViewState → ViewState → List (ℕ × List ℕ) → List (ℕ × List ℕ)
-    → Result Unit AskFault → Type 0
-FoundEnds n id old new listed later (Ok u) =
-    IsTrue old.base.tells → (g : Layout) → IsVolume old.cells old.image g → (body : List ℕ)
-    → IsKept old.cells old.image g (document_of n id body)
-    → ListsJust (RestsOn old.cells new.image g (document_of n id body)) new.image listed later
-FoundEnds n id old new listed later (Err ReadFault) = Rose old.base.faults new.base.faults
-FoundEnds n id old new listed later (Err (NoMemory lack)) = ⊤
-
-pub record ListsFound (n : ℕ) (id : List ℕ) (old new : ViewState) (listed later : List (ℕ × List ℕ))
-    (result : Result Unit AskFault) : Type 0 where
-  pub viewed : Viewed old new
-  pub ends : FoundEnds n id old new listed later result
-
 -- A body of so many bytes is kept with this identifier in slot n, and just the cells are listed that this rests on.
 pub record IsKeptListed (s : ViewState) (n : ℕ) (id : List ℕ) (bytes : ℕ) (listed later : List (ℕ × List ℕ)) : Type 0 where
   pub body : List ℕ
@@ -71,10 +51,3 @@ pub record ListsKept (n : ℕ) (id : List ℕ) (old new : ViewState) (listed lat
     (result : Result (Option ℕ) AskFault) : Type 0 where
   pub viewed : Viewed old new
   pub ends : KeptListEnds n id old new listed later result
-
--- why cell 0 states no volume: nothing is kept then, and a read that failed says nothing
-abbrev pub IsUnopened : OpenRefusal → Result Unit AskFault → Type 0
-IsUnopened opening.ReadFault result = result ≡ Err ReadFault
-IsUnopened opening.NotFormatted result = result ≡ Ok tt
-IsUnopened (opening.NotAVolume found) result = result ≡ Ok tt
-IsUnopened (opening.WrongSize stated real) result = result ≡ Ok tt

@@ -1,18 +1,42 @@
 //! The cells of a slot whose document stands: its log cells, and those of the document.
 ghost use Rattle.std.specs.Prelude.{◌<◌, ◌≤◌};
 ghost use Rattle.cell_types.specs.Layout.{IsLayout};
+ghost use Rattle.document_store.specs.Looks.{HasPart};
 ghost use Rattle.receipt_cells.specs.Path.{AreLogCells, IsUnlisted, ListsSlot};
 
 use crate::cells::list_cells;
 use cell_types::{Fault, Geometry, STAMPED_VERSION, Volume};
 use commit_record::document_cells;
-use document_store::slot_part;
+use document_store::{Part, slot_part};
 use kept_documents::AskFault;
 use receipt_text::ListedCells;
 use worm_device::View;
 
-/// Lists the log cells of the slot and the cells of its document. The document is not read as one: the caller knows
+/// Lists the log cells of a part's slot and the cells of its document. The document is not read as one: the caller knows
 /// that it stands, and where none does, no list is owed.
+pub(crate) fn list_part<V: View>(
+    view: &mut V,
+    geometry: &Geometry,
+    part: &Part,
+    listed: &mut ListedCells,
+) -> Result<(), AskFault>
+    requires size { geometry.now.cells ≤ (V.seen view.old).cells }
+    requires part { HasPart geometry.now (V.seen view.old) part.now }
+    ensures { ListsSlot geometry.now part.now.slot (V.seen view.old) (V.seen view.new) listed.old listed.new result }
+{
+    let log = geometry.reserve_at(part.slot);
+    if let Err(why) = list_cells(view, log, log + log_cells(geometry), listed) {
+        return Err(why);
+    }
+    list_cells(
+        view,
+        part.start,
+        part.start + document_cells(part.bytes),
+        listed,
+    )
+}
+
+/// The same of a slot, whose part is looked for.
 pub(crate) fn list_slot<V: View>(
     view: &mut V,
     volume: &Volume,
@@ -30,16 +54,7 @@ pub(crate) fn list_slot<V: View>(
     let Some(part) = found else {
         return Ok(());
     };
-    let log = volume.geometry.reserve_at(slot);
-    if let Err(why) = list_cells(view, log, log + log_cells(&volume.geometry), listed) {
-        return Err(why);
-    }
-    list_cells(
-        view,
-        part.start,
-        part.start + document_cells(part.bytes),
-        listed,
-    )
+    list_part(view, &volume.geometry, &part, listed)
 }
 
 /// How many log cells a slot has that is done: its stamp cell is one where documents are stamped.

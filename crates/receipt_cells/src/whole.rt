@@ -1,15 +1,13 @@
 //! The cells that a document's being kept rests on.
-ghost use Rattle.std.specs.Prelude.{◌≡◌, ◌<◌, IsTrue};
-ghost use Rattle.volume_meaning.specs.Slots.{IsDoneSlot};
-ghost use Rattle.receipt_cells.specs.Whole.{IsUnopened, KeepsSome, ListsDocument, ListsFound, ListsKept};
+ghost use Rattle.std.specs.Prelude.{◌<◌};
+ghost use Rattle.kept_documents.specs.Kept.{KeepsDocument};
+ghost use Rattle.receipt_cells.specs.Whole.{ListsDocument, ListsKept};
 
 use crate::bodies::list_body;
 use crate::cells::list_cell;
 use crate::path::list_path;
-use crate::slots::list_slot;
-use cell_types::Volume;
-use commit_record::{OpenRefusal, open};
-use kept_documents::{AskFault, is_kept};
+use crate::slots::list_part;
+use kept_documents::{AskFault, KeptDocument, kept_document};
 use receipt_text::ListedCells;
 use std::alloc::Global;
 use worm_device::View;
@@ -30,80 +28,51 @@ pub fn list_kept<V: View>(
     requires { 0 < (V.seen view.old).cells }
     ensures { ListsKept slot id.now (V.seen view.old) (V.seen view.new) listed.old listed.new result }
 {
-    let kept = match is_kept(alloc, view, slot, id) {
+    let kept = match kept_document(alloc, view, slot, id) {
         Ok(kept) => kept,
         Err(why) => return Err(why),
     };
-    let Some(bytes) = kept else {
+    let Some(document) = kept else {
         return Ok(None);
     };
     // What is kept stays so: each cell that it rests on is there when it is listed.
-    if let Err(why) = list_found(alloc, view, slot, id, listed) {
+    if let Err(why) = list_document(alloc, view, &document, id, listed) {
         return Err(why);
     }
-    Ok(Some(bytes))
+    Ok(Some(document.bytes))
 }
 
-/// Lists the cells of a document that is kept.
-fn list_found<V: View>(
-    alloc: Global,
-    view: &mut V,
-    slot: u32,
-    id: &[u8],
-    listed: &mut ListedCells,
-) -> Result<(), AskFault>
-    requires some { 0 < (V.seen view.old).cells }
-    requires kept { IsTrue (V.seen view.old).base.tells → KeepsSome (V.seen view.old) slot id.now }
-    ensures { ListsFound slot id.now (V.seen view.old) (V.seen view.new) listed.old listed.new result }
-{
-    let volume = match open(view) {
-        Ok(volume) => volume,
-        Err(why) => return unopened(why),
-    };
-    // A view that tells its image never comes here: where there is no such slot nothing is kept in it.
-    if slot >= volume.geometry.slots() {
-        return Ok(());
-    }
-    list_document(alloc, view, &volume, slot, id, listed)
-}
-
-/// Where cell 0 states no volume nothing is kept, and there is nothing to list. A read that failed says nothing.
-fn unopened(why: OpenRefusal) -> Result<(), AskFault>
-    ensures { IsUnopened why result }
-{
-    match why {
-        OpenRefusal::ReadFault => Err(AskFault::ReadFault),
-        OpenRefusal::NotFormatted => Ok(()),
-        OpenRefusal::NotAVolume(_found) => Ok(()),
-        OpenRefusal::WrongSize { .. } => Ok(()),
-    }
-}
-
-/// The same of a volume.
+/// Lists the cells of a document that is kept and was read: of its own cells each is read once more, and its body is at
+/// hand.
 fn list_document<V: View>(
     alloc: Global,
     view: &mut V,
-    volume: &Volume,
-    slot: u32,
+    document: &KeptDocument,
     id: &[u8],
     listed: &mut ListedCells,
 ) -> Result<(), AskFault>
     requires some { 0 < (V.seen view.old).cells }
-    requires slot { slot < volume.now.geometry.slots }
-    requires size { volume.now.geometry.cells ≡ (V.seen view.old).cells }
-    requires done { IsTrue (V.seen view.old).base.tells
-        → IsDoneSlot volume.now.geometry (V.seen view.old).image slot }
-    ensures { ListsDocument volume.now.geometry slot id.now (V.seen view.old) (V.seen view.new) listed.old listed.new
-        result }
+    requires kept { KeepsDocument (V.seen view.old) document.now.part.slot id.now document.now }
+    ensures { ListsDocument document.now.volume.geometry document.now.part.slot id.now (V.seen view.old)
+        (V.seen view.new) listed.old listed.new result }
 {
+    let volume = &document.volume;
+    let part = &document.part;
     if let Err(why) = list_cell(view, 0, listed) {
         return Err(why);
     }
-    if let Err(why) = list_slot(view, volume, slot, listed) {
+    if let Err(why) = list_part(view, &volume.geometry, part, listed) {
         return Err(why);
     }
-    if let Err(why) = list_body(alloc, view, volume, slot, listed) {
+    if let Err(why) = list_body(
+        alloc,
+        view,
+        volume,
+        part.slot,
+        document.body.bytes(),
+        listed,
+    ) {
         return Err(why);
     }
-    list_path(view, volume, slot, id, listed)
+    list_path(view, volume, part.slot, id, listed)
 }

@@ -6,5 +6,4 @@ pub mod Making
 pub mod MakingLaws
 pub mod Naming
 pub mod Needing
-pub mod Discard
 pub mod Viewing

@@ -27,7 +27,6 @@
 mod checking;
 mod laws;
 mod listing;
-mod looking;
 mod making;
 mod making_laws;
 mod naming;

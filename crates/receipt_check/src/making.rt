@@ -7,10 +7,11 @@
 //!     36, 37, 560     its two postings, and its bucket
 //!     580             its stored bytes
 //!
-//! **How.** The document is looked up, which settles the volume, goes along the identifier's path and reads the
-//! document whole. Then the cells are listed that its being kept rests on (`receipt_cells`); and the list alone is
-//! judged, as whoever checks the receipt will judge it. Over a device that tells what stands in it the list shows the
-//! document; whatever a device answers, nothing goes out that does not.
+//! **How.** The document is located, which settles the volume, goes along the identifier's path and reads the document
+//! whole. It is read again as one that is kept, and its body is at hand from then on; then its cells are read once more,
+//! and listed with the others that its being kept rests on (`receipt_cells`). So each of its cells is read three times.
+//! And the list alone is judged, as whoever checks the receipt will judge it. Over a device that tells what stands in it
+//! the list shows the document; whatever a device answers, nothing goes out that does not.
 //!
 //! **Which cells.** Cell 0; the slot's log cells and the document; for each posting its list's blocks from their first
 //! place up to it, or whole with the one jump cell taken; the buckets and child cells of the path down to the slot's
@@ -27,12 +28,12 @@ ghost use Rattle.receipt_check.specs.Making.{MakesReceipt};
 ghost use Rattle.receipt_check.specs.Judging.{GivesReceipt, LimitEnds};
 
 use crate::listing::{list_directly, shows_document};
-use crate::looking::look_up;
 use crate::naming::name_unkept;
 use cell_types::{Refusal, memory};
 use document_store::Text;
 use kept_documents::AskFault;
 use receipt_text::{ListedCells, MAX_RECEIPT_CELLS, Receipt};
+use record_query::locate;
 use std::alloc::Global;
 use worm_device::Device;
 
@@ -49,13 +50,13 @@ pub fn make_receipt<D: Device>(alloc: Global, device: &mut D, id: &[u8]) -> Resu
     requires { IsIdentifier id.now }
     ensures { MakesReceipt id.now (D.state device.old) (D.state device.new) result }
 {
-    let found = match look_up(device, id) {
-        Ok(found) => found,
+    let slot = match locate(device, id) {
+        Ok(slot) => slot,
         Err(refusal) => return Err(refusal),
     };
-    match receipt_of_slot(alloc, device, found.slot, id) {
+    match receipt_of_slot(alloc, device, slot, id) {
         Ok(Some(receipt)) => within_limit(receipt),
-        Ok(None) => Err(name_unkept(found.slot)),
+        Ok(None) => Err(name_unkept(slot)),
         Err(AskFault::NoMemory(lack)) => Err(Refusal::from(lack)),
         Err(AskFault::ReadFault) => Err(Refusal::DeviceFault),
     }

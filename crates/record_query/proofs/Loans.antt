@@ -1,16 +1,18 @@
 -- A look at a device does not speak of the loan by which it was made.
-use Rattle.std.proofs.Common.{◌≡◌, ℕ, List, Some, None, Option, Result, Ok, Err, inl, inr, refl, ⊎_elim}
+use Rattle.std.proofs.Common.{◌≡◌, ◌≤◌, ◌+◌, ℕ, List, Some, None, Option, Result, Ok, Err, inl, inr, refl, ⊎_elim}
 use Rattle.cell_types.specs.Image.{Image}
 use Rattle.cell_types.specs.Layout.{Layout}
 use Rattle.cell_types.specs.declared.refusal.Evidence.{Evidence}
 use Rattle.cell_types.specs.declared.refusal.Refusal.{Refusal}
 use Rattle.cell_types.specs.declared.refusal.Refusal.TheVariants as refusals
+use Rattle.volume_meaning.specs.Slots.{cells_for}
 use Rattle.host_ports.specs.Sinks.{SinkState}
 use Rattle.worm_device.specs.State.{DeviceState}
 use Rattle.worm_device.specs.Views.{Viewed, seen_directly}
 use Rattle.worm_device.proofs.Resting.{rested_since, rests_of}
 use Rattle.commit_record.specs.States.{AsksSlotBelow, ShowsBroken}
-use Rattle.document_store.specs.Looks.{BodyEnds, GotPart, LookFails, NamesDocument, ReadsOnce, ReadsTwice, of_document, of_state}
+use Rattle.document_store.specs.Looks.{BodyEnds, GotPart, HasPart, LookFails, NamesDocument, ReadsOnce, of_document, of_state}
+use Rattle.document_store.specs.declared.part.Part.{Part}
 use Rattle.document_store.specs.declared.body.BodyFault.{BodyFault}
 use Rattle.document_store.specs.declared.body.BodyFault.TheVariants.{ReadFault, SinkFault, Tampered}
 use Rattle.cell_types.specs.declared.refusal.Fault.TheVariants as faults
@@ -102,14 +104,19 @@ module _ (old new : DeviceState) (a b : ℕ) where
       ⊎_elim (λ (same : to ≡ from). inl same) (λ part. inr (got_part part)) ends.2,
     )
     body_by_any from to (Err SinkFault) ends = (ends.0, ends.1, got_part ends.2)
-
     -- and what putting it does
-    pub puts_by_any : (from to : SinkState) (result : Result ℕ BodyFault)
-        → Viewed (seen_directly old a) (seen_directly new b) → ReadsTwice g n (seen_directly old a) (seen_directly new b)
-        → BodyEnds g n (seen_directly old a) (seen_directly new b) from to result
-        → PutsFromDevice g n old new from to result
-    puts_by_any from to result viewed reads ends = record {
-      viewed = viewed_by_any viewed;
-      reads = reads;
-      ends = body_by_any from to result ends;
-    }
+
+  pub puts_by_any : (g : Layout) (part : Part) (from to : SinkState) (result : Result ℕ BodyFault)
+      → Viewed (seen_directly old a) (seen_directly new b) → new.reads ≤ old.reads + cells_for part.bytes
+      → BodyEnds g part.slot (seen_directly old a) (seen_directly new b) from to result
+      → PutsFromDevice g part old new from to result
+  puts_by_any g part from to result viewed reads ends = record {
+    viewed = viewed_by_any viewed;
+    reads = reads;
+    ends = body_by_any g part.slot from to result ends;
+  }
+
+  -- a part that was found on the device is one by any loan
+  pub part_by_any : (g : Layout) (part : Part) (c : ℕ) → HasPart g (seen_directly old 0) part
+      → HasPart g (seen_directly old c) part
+  part_by_any g part c has = record { slot = has.slot; inside = has.inside; stated = has.stated; is = has.is }

@@ -7,7 +7,6 @@ use Rattle.cell_types.specs.Layout.{Layout}
 use Rattle.cell_types.specs.declared.record_cell.RecordCell.TheVariants.{Bucket}
 use Rattle.volume_meaning.specs.Slots.{IsDone, IsDoneSlot, cells_for}
 use Rattle.volume_meaning.specs.Volumes.{Holds, IsVolume}
-use Rattle.volume_meaning.proofs.Extending.{done_on}
 use Rattle.volume_meaning.specs.HashPaths.{fingerprint_of, nibble}
 use Rattle.volume_meaning.specs.Nodes.{IsOnPath}
 use Rattle.tamper_rules.specs.Settling.{IsSettled, Settled}
@@ -19,8 +18,8 @@ use Rattle.worm_device.proofs.Counting.{still_first}
 use Rattle.worm_device.proofs.Elapsing.{called_then}
 use Rattle.recovery_engine.specs.Settling.{Settles}
 use Rattle.recovery_engine.specs.declared.settling.Ready.{Ready}
-use Rattle.document_store.specs.Looks.{ReadsTwice}
-use Rattle.document_store.proofs.Holding.{held_is_done}
+use Rattle.document_store.specs.Looks.{IsPartOf}
+use Rattle.document_store.specs.declared.part.Part.{Part}
 use Rattle.identifier_lookup.specs.Costs.{HaveMates, IsComparison, Mate, WalkCosts, cells_in, mate_cells}
 use Rattle.identifier_lookup.specs.Walks.{IsFound}
 use Rattle.identifier_lookup.proofs.Costing.{passed_is_way}
@@ -90,12 +89,16 @@ module _ (id : List ℕ) (r : Ready) (old settled mid : DeviceState) (s : Settle
     walked_briefly entry still mates have = omega (arith, walk_reads entry still mates have)
 
     -- or with the body of the document that was found
-    pub put_briefly : (n : ℕ) → IsFound g id (seen_directly settled 0) (seen_directly mid 0) n → (new : DeviceState)
-        → Viewed (seen_directly mid 0) (seen_directly new 0)
-        → ReadsTwice g n (seen_directly mid 0) (seen_directly new 0) → LooksUpBriefly id old new
-    put_briefly n found new viewed twice entry still mates have =
+    pub put_briefly : (part : Part) → IsFound g id (seen_directly settled 0) (seen_directly mid 0) part.slot
+        → IsPartOf g mid.image part.slot part → (new : DeviceState) → Viewed (seen_directly mid 0) (seen_directly new 0)
+        → new.reads ≤ mid.reads + cells_for part.bytes → LooksUpBriefly id old new
+    put_briefly part found is new viewed reads entry still mates have =
         let calm = still_first (called_then s.called seen.called).foreign_writes viewed.called.foreign_writes still in
-        let d : IsDoneSlot g mid.image n = held_is_done found.holds.holds in
-        let told : IsTrue mid.tells = subst IsTrue (sym seen.called.tells) (tells_settled before tells) in
-        let body = twice told d.start d.length d.bytes d.journal (done_on viewed.image d.done) in
-        omega (arith, walk_reads entry calm mates have, found_within entry calm mates have n found d, body)
+        let d : IsDoneSlot g mid.image part.slot = record {
+          start = is.first;
+          length = is.reserved;
+          bytes = part.bytes;
+          journal = part.journal;
+          done = is.done;
+        } in
+        omega (arith, walk_reads entry calm mates have, found_within entry calm mates have part.slot found d, reads)

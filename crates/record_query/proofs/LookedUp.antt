@@ -1,6 +1,7 @@
 -- What a look-up answers, over settling, the walk along the identifier's path, and the body.
-use Rattle.std.proofs.Common.{◌≡◌, ◌⊎◌, ℕ, List, Result, Ok, Err, refl, sym, inl, inr, subst, ⊎_elim, arith, ◌∙◌}
+use Rattle.std.proofs.Common.{◌≡◌, ◌≤◌, ◌+◌, ◌⊎◌, ℕ, true, false, None, List, [], Result, Ok, Err, refl, sym, inl, inr, subst, ⊎_elim, arith, ◌∙◌}
 use Rattle.std.specs.Prelude.{Contains, IsTrue}
+use Rattle.std.proofs.lemmas.Bool.{cases_Bool}
 use Rattle.cell_types.specs.Image.{Image, Extends}
 use Rattle.cell_types.specs.Layout.{Layout, root_at}
 use Rattle.cell_types.specs.Refusals.{refusal_of_fault}
@@ -9,7 +10,7 @@ use Rattle.cell_types.specs.declared.refusal.Fault.TheVariants as faults
 use Rattle.cell_types.specs.declared.refusal.Refusal.{Refusal}
 use Rattle.cell_types.specs.declared.refusal.Refusal.TheVariants.{Absent, DeviceFault, NotAVolume, NotFormatted, SinkFault, Tampered, WrongSize}
 use Rattle.volume_meaning.specs.Documents.{Document, Stands}
-use Rattle.volume_meaning.specs.Slots.{IsDoneSlot}
+use Rattle.volume_meaning.specs.Slots.{cells_for}
 use Rattle.volume_meaning.proofs.Extending.{holds_on, stands_on}
 use Rattle.volume_meaning.proofs.OneDocument.{one_document}
 use Rattle.volume_meaning.specs.HashPaths.{HashTrail}
@@ -23,12 +24,14 @@ use Rattle.worm_device.specs.Views.{Viewed, seen_directly}
 use Rattle.worm_device.proofs.Counting.{still_second}
 use Rattle.worm_device.proofs.Elapsing.{called_then}
 use Rattle.worm_device.proofs.Images.{extends_then}
+use Rattle.worm_device.proofs.Resting.{viewed_self}
 use Rattle.recovery_engine.specs.Settling.{SettleEnds, Settles, SettlesFirst}
 use Rattle.recovery_engine.specs.declared.settling.Ready.{Ready}
-use Rattle.document_store.specs.Looks.{BodyEnds, GotPart, HoldsBody, ReadsTwice}
+use Rattle.document_store.specs.Looks.{BodyEnds, GotPart, HoldsBody, HoldsSome}
+use Rattle.document_store.specs.declared.part.Part.{Part}
 use Rattle.document_store.specs.declared.body.BodyFault.{BodyFault}
 use Rattle.document_store.specs.declared.body.BodyFault.TheVariants as bodies
-use Rattle.document_store.proofs.Holding.{held_is_done, held_is_one, held_on, held_stands}
+use Rattle.document_store.proofs.Holding.{held_is_one, held_on, held_stands}
 use Rattle.identifier_lookup.specs.Costs.{WalkCosts}
 use Rattle.identifier_lookup.specs.Walks.{HasIdentifierTrail, IsFirstOnPath, IsFound, IsPathLicensed, NoneHasTrail, in_slot}
 use Rattle.identifier_lookup.specs.declared.answers.Walk.TheVariants as walks
@@ -37,7 +40,7 @@ use Rattle.hash_tree.specs.declared.level.Level.{Level}
 use Rattle.hash_tree.specs.declared.path.Open.{Open}
 use Rattle.record_query.specs.Looking.{HasLooked}
 use Rattle.record_query.proofs.Looking.{is_ready, same_since, still_looking, tells_settled, volume_now, looked_more}
-use Rattle.record_query.specs.LookingUp.{IsLookedUp, IsThatOf, LookUpEnds, LooksUp, NamesLookUpEvidence, NamesLookUpRule, NoneHas, PathEnds, PutsFront, at_place, behind_all, by_settling, on_path, refusal_of_body}
+use Rattle.record_query.specs.LookingUp.{IsLocated, IsLookedUp, IsThatOf, LookUpEnds, LooksUp, NamesLookUpEvidence, NamesLookUpRule, NoneHas, PathEnds, PutsFront, at_place, behind_all, by_settling, on_path, refusal_of_body}
 use Rattle.record_query.specs.Reaching.{WalksOnDevice}
 use Rattle.record_query.specs.declared.found.Found.{Found}
 use Rattle.record_query.proofs.LookedBriefly.{put_briefly, walked_briefly}
@@ -92,6 +95,10 @@ first_on e f = record {
   passed = passed_to_on e f.passed;
   bucket = holds_on e f.bucket;
 }
+
+-- a sink of which nothing is asked
+abbrev nothing : SinkState
+nothing = record { held = None; faults = 0 }
 
 -- the walk along the path
 module _ (id : List ℕ) (r : Ready) (old settled mid : DeviceState) (s : Settles old settled (Ok r))
@@ -188,13 +195,19 @@ module _ (id : List ℕ) (r : Ready) (old settled mid : DeviceState) (s : Settle
         let volume = (is_ready before tells).volume in
         (behind_all (full.passed volume), full.none volume))
 
-  -- slot n was found
-  module _ (n : ℕ) (w : WalksOnDevice r id settled mid (Ok (walks.Found n))) where
+  -- this part's slot was found
+  module _ (part : Part) (w : WalksOnDevice r id settled mid (Ok (walks.Found part))) where
+    abbrev n : ℕ
+    n = part.slot
+
     found : IsTrue old.tells → IsFound g id (seen_directly settled 0) (seen_directly mid 0) n
     found tells = w.ends.2 (tells_settled before tells)
 
-    pub found_is_done : IsTrue old.tells → IsDoneSlot g mid.image n
-    found_is_done tells = held_is_done (found tells).holds.holds
+    -- the document was read whole
+    pub found_whole : IsTrue mid.tells → HoldsSome g mid.image n
+    found_whole tells =
+        let here = (found (subst IsTrue (called_then s.called seen.called).tells tells)).holds in
+        record { id = id; body = here.body; holds = here.holds }
 
     module _ (new : DeviceState) (from to : SinkState) (viewed : Viewed (seen_directly mid 0) (seen_directly new 0)) where
       after : HasLooked r old settled new
@@ -245,35 +258,36 @@ module _ (id : List ℕ) (r : Ready) (old settled mid : DeviceState) (s : Settle
         }
 
       puts_front : GotPart g n (seen_directly new 0) from to → PutsFront id old new from to
-      puts_front part = record {
-        body = part.body;
+      puts_front front = record {
+        body = front.body;
         slot = n;
-        count = part.count;
-        first = λ tells. looked_up_is tells part.body (part.holds (told_new tells));
-        most = part.most;
-        gets = part.gets;
+        count = front.count;
+        first = λ tells. looked_up_is tells front.body (front.holds (told_new tells));
+        most = front.most;
+        gets = front.gets;
       }
 
       no_more : (to ≡ from) ⊎ GotPart g n (seen_directly new 0) from to → (to ≡ from) ⊎ PutsFront id old new from to
-      no_more got = ⊎_elim (λ (e : to ≡ from). inl e) (λ part. inr (puts_front part)) got
+      no_more got = ⊎_elim (λ (e : to ≡ from). inl e) (λ front. inr (puts_front front)) got
 
-      come_to : ReadsTwice g n (seen_directly mid 0) (seen_directly new 0) → (answer : Result Found Refusal)
+      come_to : new.reads ≤ mid.reads + cells_for part.bytes → (answer : Result Found Refusal)
           → LookUpEnds id old new from to answer → NamesLookUpRule old answer
           → NamesLookUpEvidence id old new answer → LooksUp id old new from to answer
-      come_to twice answer is rule named = record {
+      come_to reads answer is rule named = record {
         called = called_then (called_then s.called seen.called) viewed.called;
         comes = comes_to_settled after;
         ends = is;
         rule = rule;
         named = named;
-        briefly = λ tells. put_briefly id r old settled mid s seen w.costs tells n (found tells) new viewed twice;
+        briefly = λ tells. put_briefly id r old settled mid s seen w.costs tells part (found tells)
+            (w.ends.3.is (told_mid tells)) new viewed reads;
       }
 
       -- the whole body
-      pub looked_up : (bytes : ℕ) → ReadsTwice g n (seen_directly mid 0) (seen_directly new 0)
+      pub looked_up : (bytes : ℕ) → new.reads ≤ mid.reads + cells_for part.bytes
           → BodyEnds g n (seen_directly mid 0) (seen_directly new 0) from to (Ok bytes)
           → LooksUp id old new from to (Ok (record { slot = n; bytes = bytes }))
-      looked_up bytes twice put = come_to twice (Ok (record { slot = n; bytes = bytes })) (record {
+      looked_up bytes reads put = come_to reads (Ok (record { slot = n; bytes = bytes })) (record {
         body = put.2.body;
         first = λ tells. looked_up_is tells put.2.body (put.2.holds (told_new tells));
         below = omega (arith, w.ends.0, s.ends.0.horizon, s.ends.0.layout.slots);
@@ -283,14 +297,14 @@ module _ (id : List ℕ) (r : Ready) (old settled mid : DeviceState) (s : Settle
       }) tt tt
 
       -- or why it was not put
-      pub look_up_unput : (fault : BodyFault) → ReadsTwice g n (seen_directly mid 0) (seen_directly new 0)
+      pub look_up_unput : (fault : BodyFault) → new.reads ≤ mid.reads + cells_for part.bytes
           → BodyEnds g n (seen_directly mid 0) (seen_directly new 0) from to (Err fault)
           → LooksUp id old new from to (Err (refusal_of_body fault))
-      look_up_unput (bodies.Tampered e) twice put =
+      look_up_unput (bodies.Tampered e) reads put =
           let named : IsTrue old.tells → IsPathLicensed g r.horizon r.edge (seen_directly mid 0) (seen_directly new 0) e =
           λ tells. names_licensed g r.horizon r.edge n (seen_directly mid 0) (seen_directly new 0) e viewed
           (put.0.2 (told_mid tells)) in
-          come_to twice (Err (Tampered e)) (
+          come_to reads (Err (Tampered e)) (
             (put.1, no_more put.2),
             λ tells.
                 let licence = named tells in (
@@ -308,6 +322,31 @@ module _ (id : List ℕ) (r : Ready) (old settled mid : DeviceState) (s : Settle
                 ),
           ) (λ tells. inr (named tells).rule) (λ tells.
           on_path g (volume_now after tells) (in_slot n (first_now tells) (slot_cell (put.0.2 (told_mid tells)))))
-      look_up_unput bodies.ReadFault twice put = come_to twice (Err DeviceFault)
+      look_up_unput bodies.ReadFault reads put = come_to reads (Err DeviceFault)
           (omega (arith, s.called.faults, seen.called.faults, put.0), (put.1, no_more put.2)) tt tt
-      look_up_unput bodies.SinkFault twice put = come_to twice (Err SinkFault) (put.1, puts_front put.2) tt tt
+      look_up_unput bodies.SinkFault reads put = come_to reads (Err SinkFault) (put.1, puts_front put.2) tt tt
+
+    -- the slot was located
+    module _ (telling : IsTrue old.tells) where
+      here : HoldsBody g mid.image n (found telling).holds.body
+      here = record { id = id; holds = (found telling).holds.holds }
+
+      located_is : IsLookedUp id (found telling).holds.body n old mid
+      located_is = looked_up_is mid nothing nothing (viewed_self (seen_directly mid 0)) telling
+          (found telling).holds.body here
+
+    pub located : IsLocated id old mid n
+    located = record {
+      called = called_then s.called seen.called;
+      comes = comes_to_settled before;
+      below = omega (arith, w.ends.0, s.ends.0.horizon, s.ends.0.layout.slots);
+      body = body_is.0;
+      first = body_is.1;
+      briefly = walked_briefly id r old settled mid s seen w.costs;
+    }
+      where
+        body_is : (body : List ℕ) × (IsTrue old.tells → IsLookedUp id body n old mid)
+        body_is = elim (cases_Bool old.tells) [
+          | inl telling ↦ ((found telling).holds.body, λ tells. located_is telling)
+          | inr silent ↦ ([], λ tells. absurd (let clash : true ≡ false = sym tells ∙ silent in cc))
+        ]

@@ -130,7 +130,7 @@ abbrev pub LOOK_UP_READS : ℕ
 LOOK_UP_READS = 1024
 
 abbrev pub LOOK_UP_READS_A_CELL : ℕ
-LOOK_UP_READS_A_CELL = 4
+LOOK_UP_READS_A_CELL = 2
 
 -- Where the volume was settled at entry and nobody else wrote, so many are enough, whatever is answered. The documents
 -- are those that buckets with the identifier's fingerprint name on its path, each once for each bucket that names it.
@@ -149,6 +149,20 @@ pub record LooksUp (id : List ℕ) (old new : DeviceState) (from to : SinkState)
   pub rule : NamesLookUpRule old result
   pub named : NamesLookUpEvidence id old new result
   pub briefly : IsTrue old.tells → LooksUpBriefly id old new
+
+-- The document in slot n was looked up, and its body was not put out; where the device tells it is this one.
+pub record IsLocated (id : List ℕ) (old new : DeviceState) (n : ℕ) : Type 0 where
+  pub called : Called old new
+  pub comes : SettlesFirst ℕ old new (Ok n)
+  pub below : n < MAX_SLOTS
+  pub body : List ℕ
+  pub first : IsTrue old.tells → IsLookedUp id body n old new
+  pub briefly : IsTrue old.tells → LooksUpBriefly id old new
+
+-- what it means that a document is located; it is refused as a look-up is that puts nothing out, into whatever sink
+abbrev pub Locates : List ℕ → DeviceState → DeviceState → Result ℕ Refusal → Type 0
+Locates id old new (Ok n) = IsLocated id old new n
+Locates id old new (Err refusal) = (sink : SinkState) → LooksUp id old new sink sink (Err refusal)
 
 -- a fault of putting a body, as a command refuses
 abbrev pub refusal_of_body : BodyFault → Refusal

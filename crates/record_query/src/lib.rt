@@ -26,7 +26,7 @@
 //! candidate of one cell: at most 196,868 reads, however many documents there are.
 //!
 //! A look-up follows the path of the identifier alone. It checks the whole document before its first byte
-//! goes out, and takes no memory. On a settled volume it makes at most 1,024 reads, and four more for each
+//! goes out, and takes no memory; `locate` puts nothing out. On a settled volume it makes at most 1,024 reads, and two more for each
 //! cell of a document whose bucket on that path has the fingerprint of the identifier.
 //!
 //! Stands on `posting_list`, which finds the slots that words have in common; `identifier_lookup`, which
@@ -46,4 +46,4 @@ pub use document_store::Text;
 pub use finding::{CELL_READS, FIND_READS, TERM_READS, find};
 pub use found::{Found, Match};
 pub use laws::a_path_has_mates;
-pub use looking_up::lookup_into;
+pub use looking_up::{locate, lookup_into};

@@ -1,13 +1,14 @@
 //! A document, by its identifier.
-ghost use Rattle.std.specs.Prelude.{◌≡◌, ◌<◌, ◌≤◌, IsTrue};
-ghost use Rattle.volume_meaning.specs.Slots.{IsDoneSlot};
+ghost use Rattle.std.specs.Prelude.{◌≡◌, ◌≤◌, IsTrue};
+ghost use Rattle.document_store.specs.Looks.{HasPart, HoldsSome};
 ghost use Rattle.hash_tree.specs.Levels.{AreBounds};
-ghost use Rattle.record_query.specs.LookingUp.{LooksUp, refusal_of_body};
+ghost use Rattle.record_query.specs.LookingUp.{Locates, LooksUp, refusal_of_body};
 ghost use Rattle.record_query.specs.Reaching.{PutsFromDevice, WalksOnDevice};
+ghost use Rattle.worm_device.specs.Views.{seen_directly};
 
 use crate::found::Found;
-use cell_types::{Fault, Refusal, Volume};
-use document_store::{BodyFault, body_into};
+use cell_types::{Fault, Geometry, Refusal};
+use document_store::{BodyFault, Part, put_part};
 use host_ports::Sink;
 use identifier_lookup::{Walk, walk};
 use recovery_engine::{Ready, settle};
@@ -30,14 +31,31 @@ pub fn lookup_into<D: Device, K: Sink>(
 {
     let ready = settle(device)?;
     let walked = walk_device(device, &ready, id)?;
-    let slot = match walked {
-        Walk::Found(slot) => slot,
+    let part = match walked {
+        Walk::Found(part) => part,
         Walk::End(_place, _level) => return Err(Refusal::Absent),
         Walk::PathFull => return Err(Refusal::Absent),
     };
-    match put_body(device, &ready.volume, slot, sink) {
-        Ok(bytes) => Ok(Found { slot, bytes }),
+    match put_body(device, &ready.volume.geometry, &part, sink) {
+        Ok(bytes) => Ok(Found {
+            slot: part.slot,
+            bytes,
+        }),
         Err(fault) => Err(refusal_of_body(fault)),
+    }
+}
+
+/// The slot of the document that `lookup_into` gives. The walk reads the document whole, and nothing is put out. The errors
+/// are those of `lookup_into`, but for `SinkFault`.
+pub fn locate<D: Device>(device: &mut D, id: &[u8]) -> Result<u32, Refusal>
+    ensures { Locates id.now (D.state device.old) (D.state device.new) result }
+{
+    let ready = settle(device)?;
+    let walked = walk_device(device, &ready, id)?;
+    match walked {
+        Walk::Found(part) => Ok(part.slot),
+        Walk::End(_place, _level) => Err(Refusal::Absent),
+        Walk::PathFull => Err(Refusal::Absent),
     }
 }
 
@@ -58,21 +76,21 @@ fn walk_device<D: Device>(device: &mut D, ready: &Ready, id: &[u8]) -> Result<Wa
     )
 }
 
-/// Puts the body of the document of a slot of the device into the sink.
+/// Puts the body of the document of a part of the device into the sink. The walk has read the document whole.
 fn put_body<D: Device, K: Sink>(
     device: &mut D,
-    volume: &Volume,
-    slot: u32,
+    geometry: &Geometry,
+    part: &Part,
     sink: &mut K,
 ) -> Result<u32, BodyFault>
-    requires slot { slot < volume.now.geometry.slots }
-    requires size { volume.now.geometry.cells ≤ (D.state device.old).cells }
-    requires done { IsTrue (D.state device.old).tells
-        → IsDoneSlot volume.now.geometry (D.state device.old).image slot }
-    ensures { PutsFromDevice volume.now.geometry slot (D.state device.old) (D.state device.new) (K.state sink.old)
+    requires size { geometry.now.cells ≤ (D.state device.old).cells }
+    requires part { HasPart geometry.now (seen_directly (D.state device.old) 0) part.now }
+    requires whole { IsTrue (D.state device.old).tells
+        → HoldsSome geometry.now (D.state device.old).image part.now.slot }
+    ensures { PutsFromDevice geometry.now part.now (D.state device.old) (D.state device.new) (K.state sink.old)
         (K.state sink.new) result }
 {
-    body_into(&mut Direct::new(device), volume, slot, sink)
+    put_part(&mut Direct::new(device), geometry, part, sink)
 }
 
 /// A fault of putting a body, as a command refuses.

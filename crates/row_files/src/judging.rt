@@ -1,5 +1,6 @@
 //! Which rows of files agree.
-use std::alloc::{AllocError, Global};
+use cell_types::NoMemory;
+use std::alloc::Global;
 use std::rt::{Env, Files};
 use std::{env, fs, io};
 
@@ -13,7 +14,7 @@ pub struct Tally {
 /// What carries out rows.
 pub trait Judge {
     /// Carries out the rows of a text.
-    fn judge(alloc: Global, text: &str) -> Result<Tally, AllocError>;
+    fn judge(alloc: Global, text: &str) -> Result<Tally, NoMemory>;
 }
 
 /// Judges the rows of each file that an argument names, and prints what came of them. A row that does not agree is an

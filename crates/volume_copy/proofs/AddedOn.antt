@@ -33,7 +33,7 @@ use Rattle.crash_laws.specs.Steadiness.{HasOneMore, HoldsOneMore, IsLeftByIngest
 use Rattle.crash_laws.proofs.AddsOne.{comes_more}
 use Rattle.crash_laws.proofs.Steady.{comes_steady}
 use Rattle.volume_copy.specs.Adding.{AddDocumentEnds, AddFails, AddsNext, CanBeRead, Completes, CopyGoesOn, IngestsOf, RestFails, WhereCopied}
-use Rattle.volume_copy.specs.Auditing.{IsWholeVolume}
+use Rattle.volume_copy.specs.Auditing.{IsWholeVolume, done_of}
 use Rattle.volume_copy.specs.Alone.{AreAlone}
 use Rattle.volume_copy.specs.Completing.{AreOfOneVersion, IsForRoom}
 use Rattle.volume_copy.specs.First.{HoldsFirst, StaysFirst, none}
@@ -43,6 +43,10 @@ use Rattle.volume_copy.specs.Refusing.{refusal_from, refusal_to}
 use Rattle.volume_copy.specs.Staying.{IsSoundThroughout}
 use Rattle.volume_copy.specs.declared.audited.AuditedVolume.{AuditedVolume}
 use Rattle.volume_copy.specs.declared.moved.Moved.{Moved}
+use Rattle.document_store.specs.Looks.{HasPart}
+use Rattle.document_store.specs.declared.part.Part.{Part}
+use Rattle.document_store.proofs.Holding.{part_on}
+use Rattle.worm_device.specs.Views.{seen_directly}
 use Rattle.volume_copy.specs.declared.stored.StoredCopy.{StoredCopy}
 use Rattle.volume_copy.proofs.First.{first_below, first_then}
 use Rattle.volume_copy.proofs.ForRoom.{for_room}
@@ -63,15 +67,23 @@ read_then p q = record {
       (q.only (still_second p.called.foreign_writes q.called.foreign_writes still));
 }
 
+-- a part that was found is one later
+part_later : {g : Layout} {s t : DeviceState} {part : Part} → Called s t → HasPart g (seen_directly s 0) part
+    → HasPart g (seen_directly t 0) part
+part_later called has = record {
+  slot = has.slot;
+  inside = has.inside;
+  stated = has.stated;
+  is = λ tells. part_on called.image (has.is (subst IsTrue called.tells tells));
+}
+
 -- what could be read can be
 pub can_on : {s t : DeviceState} {volume : AuditedVolume} → Called s t → CanBeRead s volume → CanBeRead t volume
 can_on {s} {t} {volume} called can = record {
   size = can.size ∙ sym called.cells;
-  below = can.below;
   is_volume = λ tells. subst (λ (k : ℕ). IsVolume k t.image volume.volume.geometry) (sym called.cells)
       (volume_on called.image (can.is_volume (subst IsTrue called.tells tells)));
-  done = λ tells place less. done_slot_on (extends_self s.image) called.image
-      (can.done (subst IsTrue called.tells tells) place less);
+  parts = λ part among. part_later called (can.parts part among);
 }
 
 -- a volume stays whole while it is only read
@@ -98,7 +110,7 @@ source_fails g n from from' to refusal fails = fails
 
 -- the document that was read was ingested, or not
 pub ingests_of : (g : Layout) (n : ℕ) {from from' to to' : DeviceState} (copy : StoredCopy) (id body : List ℕ)
-    (result : Result ℕ Refusal) → id ≡ copy.identifier.items → body ≡ copy.body.held → Called from from'
+    (result : Result ℕ Refusal) → id ≡ copy.identifier → body ≡ copy.body.held → Called from from'
     → (IsTrue from.tells → HoldsCopy g from'.image n copy) → Ingests id copy.stamp body to to' result
     → IngestsOf g n from' to to' result
 ingests_of g n {from} {from'} copy id body result id_is body_is called holds ingests = record {
@@ -106,7 +118,7 @@ ingests_of g n {from} {from'} copy id body result id_is body_is called holds ing
   stamp = copy.stamp;
   body = body;
   holds = λ tells. subst (λ (x : List ℕ). HoldsDocument g from'.image n x body) (sym id_is)
-      (subst (λ (x : List ℕ). HoldsDocument g from'.image n copy.identifier.items x) (sym body_is)
+      (subst (λ (x : List ℕ). HoldsDocument g from'.image n copy.identifier x) (sym body_is)
       (holds (subst IsTrue called.tells tells)).holds);
   stamped = λ tells. (holds (subst IsTrue called.tells tells)).stamped;
   ingests = ingests;
@@ -119,9 +131,9 @@ target_fails g n from from' to to' refusal ingests = ingests
 
 -- an ingest of the next document of the source, whatever it answers
 module _ (source : AuditedVolume) {s t u v : DeviceState} (device_u : IsDevice u) (device : IsDevice v) (alone : AreAlone s t u v)
-    (read : IsOnlyRead s t) (called : Called u v) (can : CanBeRead s source) (whole : IsWholeVolume s source.done.items) (moved : List Moved)
-    (so : CopiedSoFar s u moved) (less : length moved < length source.done.items) (n : ℕ)
-    (at_place : n ≡ slice_index source.done.items (length moved)) {result : Result ℕ Refusal}
+    (read : IsOnlyRead s t) (called : Called u v) (can : CanBeRead s source) (whole : IsWholeVolume s (done_of source)) (moved : List Moved)
+    (so : CopiedSoFar s u moved) (less : length moved < length (done_of source)) (n : ℕ)
+    (at_place : n ≡ slice_index (done_of source) (length moved)) {result : Result ℕ Refusal}
     (ing : IngestsOf source.volume.geometry n t u v result) where
   abbrev g : Layout
   g = so.agree.from_layout
@@ -140,8 +152,8 @@ module _ (source : AuditedVolume) {s t u v : DeviceState} (device_u : IsDevice u
   tells_t = subst IsTrue (sym read.called.tells) alone.from_tells
 
   abbrev at : (d : Document) × (slice_get so.agree.source (length moved) ≡ Some d)
-      × (d.slot ≡ slice_index source.done.items (length moved))
-  at = by_place so.agree.source source.done.items (length moved) (whole.slots so.agree.source so.agree.those) less
+      × (d.slot ≡ slice_index (done_of source) (length moved))
+  at = by_place so.agree.source (done_of source) (length moved) (whole.slots so.agree.source so.agree.those) less
 
   abbrev d : Document
   d = at.0
@@ -286,23 +298,23 @@ module _ (source : AuditedVolume) {s t u v : DeviceState} (device_u : IsDevice u
 
 -- what a crash leaves of copying the document of a place, behind those of the places before it
 pub ingest_first : (source : AuditedVolume) {s t u v : DeviceState} → IsDevice u → IsDevice v → IsOnlyRead s t → Called u v
-    → CanBeRead s source → (place : ℕ) → place < length source.done.items → (n : ℕ)
-    → n ≡ slice_index source.done.items place → {result : Result ℕ Refusal}
+    → CanBeRead s source → (place : ℕ) → place < length (done_of source) → (n : ℕ)
+    → n ≡ slice_index (done_of source) place → {result : Result ℕ Refusal}
     → IngestsOf source.volume.geometry n t u v result → (moved : List Moved) → length moved ≡ place
     → WhereCopied source s t u v moved (StaysFirst t.cells t.image u v)
 ingest_first source device_u device read called can place less n at ing moved count alone whole so =
     first_of_ingest source device_u device alone read called can whole moved so (omega (arith, count, less)) n
-    (at ∙ ap (λ (k : ℕ). slice_index source.done.items k) (sym count)) ing
+    (at ∙ ap (λ (k : ℕ). slice_index (done_of source) k) (sym count)) ing
 
 -- why that is refused, where nothing hinders
 pub ingest_complete : (source : AuditedVolume) {s t u v : DeviceState} → IsDevice u → IsDevice v → IsOnlyRead s t → Called u v
-    → CanBeRead s source → (place : ℕ) → place < length source.done.items → (n : ℕ)
-    → n ≡ slice_index source.done.items place → (refusal : Refusal)
+    → CanBeRead s source → (place : ℕ) → place < length (done_of source) → (n : ℕ)
+    → n ≡ slice_index (done_of source) place → (refusal : Refusal)
     → IngestsOf source.volume.geometry n t u v (Err refusal) → (moved : List Moved) → length moved ≡ place
     → Completes source s t u v moved {X = Moved} (Err (refusal_to refusal))
 ingest_complete source device_u device read called can place less n at refusal ing moved count alone whole so unfailed version =
     ingest_for_room source device_u device alone read called can whole moved so (omega (arith, count, less)) n
-    (at ∙ ap (λ (k : ℕ). slice_index source.done.items k) (sym count)) ing version unfailed.to_unfailed refusal refl
+    (at ∙ ap (λ (k : ℕ). slice_index (done_of source) k) (sym count)) ing version unfailed.to_unfailed refusal refl
 
 -- why reading the source is, where nothing hinders
 pub source_complete : (source : AuditedVolume) {s t u : DeviceState} → IsOnlyRead s t → (refusal : Refusal)
@@ -315,8 +327,8 @@ source_complete source {s} {t} read refusal fails moved alone whole so unfailed 
 
 -- one document more
 module _ (source : AuditedVolume) {s t u v : DeviceState} (device_u : IsDevice u) (device : IsDevice v) (alone : AreAlone s t u v)
-    (read : IsOnlyRead s t) (called : Called u v) (can : CanBeRead s source) (whole : IsWholeVolume s source.done.items) (moved : List Moved)
-    (so : CopiedSoFar s u moved) (less : length moved < length source.done.items) (pair : Moved)
+    (read : IsOnlyRead s t) (called : Called u v) (can : CanBeRead s source) (whole : IsWholeVolume s (done_of source)) (moved : List Moved)
+    (so : CopiedSoFar s u moved) (less : length moved < length (done_of source)) (pair : Moved)
     (ends : AddDocumentEnds source (length moved) s t u v (Ok pair)) where
   abbrev ing : IngestsOf source.volume.geometry pair.old t u v (Ok pair.new)
   ing = ends.1
@@ -372,7 +384,7 @@ pub record RestSoFar (source : AuditedVolume) (from now to there : DeviceState) 
   pub same : IsTrue from.tells → IsTrue to.tells → PairsHold from to moved → PairsHold now there moved_now
   pub count : length moved_now ≡ place
   pub goes : CopyGoesOn source from now to there moved moved_now
-  pub first : AreOfFirst source.done.items moved → AreOfFirst source.done.items moved_now
+  pub first : AreOfFirst (done_of source) moved → AreOfFirst (done_of source) moved_now
 
 pub rest_none : (source : AuditedVolume) (from to : DeviceState) (moved : List Moved) (place : ℕ) → length moved ≡ place
     → RestSoFar source from from to to moved moved place
@@ -478,7 +490,7 @@ module _ {source : AuditedVolume} {from now new to there then : DeviceState} {mo
       })
       (version_now so_far so version)
 
-  pub rest_more : IsDevice now → IsDevice there → IsDevice then → place < length source.done.items → (pair : Moved)
+  pub rest_more : IsDevice now → IsDevice there → IsDevice then → place < length (done_of source) → (pair : Moved)
       → AddsNext source place now new there then (Ok pair)
       → RestSoFar source from new to then moved (moved_now ++ pair ∷ []) (place + 1)
   rest_more device_now device_there device_then less pair adds = record {
@@ -501,16 +513,16 @@ module _ {source : AuditedVolume} {from now new to there then : DeviceState} {mo
         (whole_on device_now so_far.from_read before.from_alone whole) moved_now
         (so_far.goes before whole so) (omega (arith, so_far.count, less)) pair
         (subst (λ (n : ℕ). AddDocumentEnds source n now new there then (Ok pair)) (sym so_far.count) adds.ends);
-    first = λ are. first_push source.done.items moved_now pair (omega (arith, so_far.count, less))
-        (adds.ends.0 ∙ ap (λ (n : ℕ). slice_index source.done.items n) (sym so_far.count)) (so_far.first are);
+    first = λ are. first_push (done_of source) moved_now pair (omega (arith, so_far.count, less))
+        (adds.ends.0 ∙ ap (λ (n : ℕ). slice_index (done_of source) n) (sym so_far.count)) (so_far.first are);
   }
 
-  pub rest_fails : IsDevice now → IsDevice there → IsDevice then → place < length source.done.items → (refusal : CopyRefusal)
+  pub rest_fails : IsDevice now → IsDevice there → IsDevice then → place < length (done_of source) → (refusal : CopyRefusal)
       → AddsNext source place now new there then (Err refusal) → RestFails source moved from new to then refusal
   rest_fails device_now device_there device_then less refusal adds = go refusal adds.ends
     where
       -- it was the next one, behind those that have their pairs
-      was_next : {r : Refusal} → (fails : IngestsOf source.volume.geometry (slice_index source.done.items place) new there then (Err r))
+      was_next : {r : Refusal} → (fails : IngestsOf source.volume.geometry (slice_index (done_of source) place) new there then (Err r))
           → WhereCopied source from new to then moved (IsNextToCopy new there fails.id fails.body)
       was_next fails alone whole so =
           let before = alone_first so_far.from_read.called adds.from_read.called so_far.to_called adds.to_called alone in
@@ -518,10 +530,10 @@ module _ {source : AuditedVolume} {from now new to there then : DeviceState} {mo
           (alone_second so_far.from_read.called adds.from_read.called so_far.to_called adds.to_called alone)
           adds.from_read adds.to_called (can_on so_far.from_read.called can)
           (whole_on device_now so_far.from_read before.from_alone whole) moved_now
-          (so_far.goes before whole so) (omega (arith, so_far.count, less)) (slice_index source.done.items place)
-          (ap (λ (k : ℕ). slice_index source.done.items k) (sym so_far.count)) fails
+          (so_far.goes before whole so) (omega (arith, so_far.count, less)) (slice_index (done_of source) place)
+          (ap (λ (k : ℕ). slice_index (done_of source) k) (sym so_far.count)) fails
 
-      go : (r : CopyRefusal) → AddFails source.volume.geometry (slice_index source.done.items place) now new there then r
+      go : (r : CopyRefusal) → AddFails source.volume.geometry (slice_index (done_of source) place) now new there then r
           → RestFails source moved from new to then r
       go copies.NoMemory fails = tt
       go (copies.From refusals.NoMemory) fails = absurd fails
@@ -530,7 +542,7 @@ module _ {source : AuditedVolume} {from now new to there then : DeviceState} {mo
       go (copies.To r) fails = record {
         between = there;
         called = so_far.to_called;
-        slot = slice_index source.done.items place;
+        slot = slice_index (done_of source) place;
         ingests = fails;
         next = was_next fails;
       }

@@ -30,7 +30,7 @@ use Rattle.command_laws.specs.Begins.{BeginsSteady}
 use Rattle.command_laws.specs.Telling.{IsFormatted, LeavesHeld}
 use Rattle.command_laws.proofs.Formatting.{format_makes}
 use Rattle.volume_copy.specs.Adding.{CanBeRead}
-use Rattle.volume_copy.specs.Auditing.{AuditsSteady, HasAudited, IsWholeVolume, by_reading}
+use Rattle.volume_copy.specs.Auditing.{AuditsSteady, HasAudited, IsWholeVolume, by_reading, done_of}
 use Rattle.volume_copy.specs.Beginning.{BeginEnds, BeginsCopy, HaveNumbers, IsCopyFree, StatesNone, StatesOther}
 use Rattle.volume_copy.specs.Comparing.{CompareVolumesEnds, ComparesAll}
 use Rattle.volume_copy.specs.Alone.{AreAlone}
@@ -66,9 +66,8 @@ begin_refuses slots lists source from from' to to' refusal refuses = refuses
 pub can_audited : {old new : DeviceState} {volume : AuditedVolume} → HasAudited old new volume → CanBeRead new volume
 can_audited a = record {
   size = a.size;
-  below = a.below;
   is_volume = λ tells. a.is_volume (subst IsTrue a.called.tells tells);
-  done = λ tells. a.done (subst IsTrue a.called.tells tells);
+  parts = a.parts;
 }
 
 -- the source has the version that was asked for
@@ -126,7 +125,7 @@ module _ (g : Layout) {old new : DeviceState} (size : g.cells ≡ old.cells) (de
 
     -- nothing was copied yet
     pub copied_none : {s : DeviceState} {source : AuditedVolume} → CanBeRead s source → IsTrue s.tells
-        → IsWholeVolume s source.done.items → CopiedSoFar s new []
+        → IsWholeVolume s (done_of source) → CopiedSoFar s new []
     copied_none {s} {source} can s_tells whole =
         let those = documents_exist s.cells s.image whole.settled in
         record {
@@ -165,7 +164,7 @@ begins_formatted slots lists version {source} {from} {to} {mid} {new} moved none
           (format_held (layout_for slots lists version mid) (Ok tt) refl device formats);
       same = λ from_tells to_tells. subst (λ (l : List Moved). PairsHold from new l) (sym none)
           (λ pair among. absurd (omega (arith, among.1)));
-      first = subst (λ (l : List Moved). AreOfFirst source.done.items l) (sym none) refl;
+      first = subst (λ (l : List Moved). AreOfFirst (done_of source) l) (sym none) refl;
       complete = λ free. tt;
       ends = λ alone whole.
           let tells = subst IsTrue (sym called.tells) alone.to_tells in
@@ -274,7 +273,7 @@ module _ (slots lists version : ℕ) {source target : AuditedVolume} {from from'
       pub alone_behind : AreAlone from from' audited new
       alone_behind = alone_second (called_self from) read.called before to_read.called alone
 
-      pub whole_target : IsWholeVolume audited target.done.items
+      pub whole_target : IsWholeVolume audited (done_of target)
       whole_target = audit.whole (subst IsTrue (sym called.tells) alone.to_tells)
           (still_second called.foreign_writes audit.called.foreign_writes
           (still_first before.foreign_writes to_read.called.foreign_writes alone.to_alone))

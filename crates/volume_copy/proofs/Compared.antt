@@ -25,7 +25,7 @@ use Rattle.worm_device.proofs.Elapsing.{called_then}
 use Rattle.document_store.specs.Standing.{HoldsDocument}
 use Rattle.document_store.proofs.Holding.{held_stands}
 use Rattle.volume_copy.specs.Adding.{CanBeRead}
-use Rattle.volume_copy.specs.Auditing.{IsWholeVolume}
+use Rattle.volume_copy.specs.Auditing.{IsWholeVolume, done_of}
 use Rattle.volume_copy.specs.Comparing.{CompareVolumesEnds, ComparesAll, ComparesNext, FindsOther, FindsSame, IsSameCopy, NextPairEnds, ReadsBoth, WhereWhole}
 use Rattle.volume_copy.specs.Alone.{AreAlone}
 use Rattle.volume_copy.specs.Copies.{HoldOthers, IsFirstPast, IsFirstToDiffer}
@@ -90,14 +90,14 @@ module _ {s : DeviceState} {volume : AuditedVolume} (can : CanBeRead s volume) (
   one : volume.volume.geometry ≡ g
   one = one_layout {cells = s.cells} {more = s.cells} volume.volume.geometry g (can.is_volume tells) is_volume
 
-  stands : Stands s.cells s.image d.slot copy.identifier.items copy.body.held
-  stands = held_stands g s.cells s.image d.slot copy.identifier.items copy.body.held is_volume
-      (subst (λ (m : ℕ). HoldsDocument g s.image m copy.identifier.items copy.body.held) same
-      (subst (λ (k : Layout). HoldsDocument k s.image n copy.identifier.items copy.body.held) one holds.holds))
+  stands : Stands s.cells s.image d.slot copy.identifier copy.body.held
+  stands = held_stands g s.cells s.image d.slot copy.identifier copy.body.held is_volume
+      (subst (λ (m : ℕ). HoldsDocument g s.image m copy.identifier copy.body.held) same
+      (subst (λ (k : Layout). HoldsDocument k s.image n copy.identifier copy.body.held) one holds.holds))
 
-  pub copy_is : (copy.identifier.items ≡ d.id) × (copy.body.held ≡ d.body) × IsStampOf g s.image d.slot copy.stamp
+  pub copy_is : (copy.identifier ≡ d.id) × (copy.body.held ≡ d.body) × IsStampOf g s.image d.slot copy.stamp
   copy_is =
-      let both = one_document s.cells s.image d.slot copy.identifier.items copy.body.held d.id d.body stands
+      let both = one_document s.cells s.image d.slot copy.identifier copy.body.held d.id d.body stands
       ((are.each d).1 among).stands in (
         both.0,
         both.1,
@@ -106,9 +106,9 @@ module _ {s : DeviceState} {volume : AuditedVolume} (can : CanBeRead s volume) (
       )
 
 module _ {source target : AuditedVolume} {s u : DeviceState} (can_s : CanBeRead s source) (can_u : CanBeRead u target)
-    (tells_s : IsTrue s.tells) (tells_u : IsTrue u.tells) (whole_s : IsWholeVolume s source.done.items)
-    (whole_u : IsWholeVolume u target.done.items) (moved : List Moved) (a : AgreeSoFar s u moved)
-    (inside : length moved < length target.done.items) where
+    (tells_s : IsTrue s.tells) (tells_u : IsTrue u.tells) (whole_s : IsWholeVolume s (done_of source))
+    (whole_u : IsWholeVolume u (done_of target)) (moved : List Moved) (a : AgreeSoFar s u moved)
+    (inside : length moved < length (done_of target)) where
   abbrev g : Layout
   g = a.from_layout
 
@@ -116,16 +116,16 @@ module _ {source target : AuditedVolume} {s u : DeviceState} (can_s : CanBeRead 
   h = a.to_layout
 
   abbrev e_at : (e : Document) × (slice_get a.target (length moved) ≡ Some e)
-      × (e.slot ≡ slice_index target.done.items (length moved))
-  e_at = by_place a.target target.done.items (length moved) (whole_u.slots a.target a.these) inside
+      × (e.slot ≡ slice_index (done_of target) (length moved))
+  e_at = by_place a.target (done_of target) (length moved) (whole_u.slots a.target a.these) inside
 
-  pub past : length source.done.items ≤ length moved → IsFirstPast s u (slice_index target.done.items (length moved))
+  pub past : length (done_of source) ≤ length moved → IsFirstPast s u (slice_index (done_of target) (length moved))
   past over = record {
     moved = moved;
     agree = a;
     all =
         let long = pairs_long g h s.image u.image (take (length moved) a.target) moved a.source a.pairs in
-        let count : length a.source ≡ length source.done.items =
+        let count : length a.source ≡ length (done_of source) =
         sym (slots_length a.source) ∙ ap (λ (l : List ℕ). length l) (whole_s.slots a.source a.those) in
         omega (arith, long.1, count, over);
     e = e_at.0;
@@ -133,11 +133,11 @@ module _ {source target : AuditedVolume} {s u : DeviceState} (can_s : CanBeRead 
     new_is = sym e_at.2;
   }
 
-  module _ (within : length moved < length source.done.items) (old new : ℕ)
+  module _ (within : length moved < length (done_of source)) (old new : ℕ)
       (read : ReadsBoth source target (length moved) s u old new) where
     abbrev d_at : (d : Document) × (slice_get a.source (length moved) ≡ Some d)
-        × (d.slot ≡ slice_index source.done.items (length moved))
-    d_at = by_place a.source source.done.items (length moved) (whole_s.slots a.source a.those) within
+        × (d.slot ≡ slice_index (done_of source) (length moved))
+    d_at = by_place a.source (done_of source) (length moved) (whole_s.slots a.source a.those) within
 
     old_is : old ≡ (d_at.0).slot
     old_is = read.old_is ∙ sym d_at.2
@@ -145,12 +145,12 @@ module _ {source target : AuditedVolume} {s u : DeviceState} (can_s : CanBeRead 
     new_is : new ≡ (e_at.0).slot
     new_is = read.new_is ∙ sym e_at.2
 
-    one_is : (read.one.identifier.items ≡ (d_at.0).id) × (read.one.body.held ≡ (d_at.0).body)
+    one_is : (read.one.identifier ≡ (d_at.0).id) × (read.one.body.held ≡ (d_at.0).body)
         × IsStampOf g s.image (d_at.0).slot read.one.stamp
     one_is = copy_is can_s tells_s g a.from_volume a.source a.those d_at.0
         (place_in a.source (length moved) d_at.0 d_at.1) old old_is read.one (read.there tells_s)
 
-    other_is : (read.other.identifier.items ≡ (e_at.0).id) × (read.other.body.held ≡ (e_at.0).body)
+    other_is : (read.other.identifier ≡ (e_at.0).id) × (read.other.body.held ≡ (e_at.0).body)
         × IsStampOf h u.image (e_at.0).slot read.other.stamp
     other_is = copy_is can_u tells_u h a.to_volume a.target a.these e_at.0
         (place_in a.target (length moved) e_at.0 e_at.1) new new_is read.other (read.here tells_u)
@@ -228,13 +228,13 @@ hold_others {source} {target} {place} {s} {u} can_s can_u s_tells u_tells old ne
       to_layout = target.volume.geometry;
       from_volume = can_s.is_volume s_tells;
       to_volume = can_u.is_volume u_tells;
-      d = record { slot = old; id = read.one.identifier.items; body = read.one.body.held };
-      e = record { slot = new; id = read.other.identifier.items; body = read.other.body.held };
+      d = record { slot = old; id = read.one.identifier; body = read.one.body.held };
+      e = record { slot = new; id = read.other.identifier; body = read.other.body.held };
       old_is = refl;
       new_is = refl;
-      there = held_stands source.volume.geometry s.cells s.image old read.one.identifier.items read.one.body.held
+      there = held_stands source.volume.geometry s.cells s.image old read.one.identifier read.one.body.held
           (can_s.is_volume s_tells) there.holds;
-      here = held_stands target.volume.geometry u.cells u.image new read.other.identifier.items read.other.body.held
+      here = held_stands target.volume.geometry u.cells u.image new read.other.identifier read.other.body.held
           (can_u.is_volume u_tells) here.holds;
       differ = λ says. finds.other (record {
         identifier = sym says.id;
@@ -256,13 +256,13 @@ hold_same {source} {target} {place} {s} {u} can_s can_u s_tells u_tells old new 
       to_layout = target.volume.geometry;
       from_volume = can_s.is_volume s_tells;
       to_volume = can_u.is_volume u_tells;
-      d = record { slot = old; id = read.one.identifier.items; body = read.one.body.held };
-      e = record { slot = new; id = read.other.identifier.items; body = read.other.body.held };
+      d = record { slot = old; id = read.one.identifier; body = read.one.body.held };
+      e = record { slot = new; id = read.other.identifier; body = read.other.body.held };
       old_is = refl;
       new_is = refl;
-      there = held_stands source.volume.geometry s.cells s.image old read.one.identifier.items read.one.body.held
+      there = held_stands source.volume.geometry s.cells s.image old read.one.identifier read.one.body.held
           (can_s.is_volume s_tells) there.holds;
-      here = held_stands target.volume.geometry u.cells u.image new read.other.identifier.items read.other.body.held
+      here = held_stands target.volume.geometry u.cells u.image new read.other.identifier read.other.body.held
           (can_u.is_volume u_tells) here.holds;
       same = record {
         id = sym finds.same.identifier;
@@ -275,7 +275,7 @@ hold_same {source} {target} {place} {s} {u} can_s can_u s_tells u_tells old new 
 
 -- nothing was compared yet
 agree_none : {source target : AuditedVolume} {s u : DeviceState} → CanBeRead s source → CanBeRead u target
-    → IsTrue s.tells → IsTrue u.tells → IsWholeVolume s source.done.items → IsWholeVolume u target.done.items → AgreeSoFar s u []
+    → IsTrue s.tells → IsTrue u.tells → IsWholeVolume s (done_of source) → IsWholeVolume u (done_of target) → AgreeSoFar s u []
 agree_none {source} {target} {s} {u} can_s can_u tells_s tells_u whole_s whole_u =
     let those = documents_exist s.cells s.image whole_s.settled in
     let these = documents_exist u.cells u.image whole_u.settled in
@@ -300,7 +300,7 @@ pub record ComparedSoFar (source target : AuditedVolume) (from now to there : De
   pub count : length moved ≡ place
   pub agree : WhereWhole source target from now to there (AgreeSoFar now there moved)
   pub same : IsTrue from.tells → IsTrue to.tells → PairsHold now there moved
-  pub first : AreOfFirst source.done.items moved
+  pub first : AreOfFirst (done_of source) moved
 
 pub compared_none : {source target : AuditedVolume} {from to : DeviceState} → CanBeRead from source → CanBeRead to target
     → ComparedSoFar source target from from to to [] 0
@@ -318,15 +318,15 @@ module _ {source target : AuditedVolume} {from now to there : DeviceState} {move
     (so_far : ComparedSoFar source target from now to there moved place) (device_now : IsDevice now)
     (device_there : IsDevice there) where
   -- the target has one more than the source
-  pub compared_past : place < length target.done.items → length source.done.items ≤ place
-      → ComparesAll source target from now to there (Err (copies.Longer (slice_index target.done.items place)))
+  pub compared_past : place < length (done_of target) → length (done_of source) ≤ place
+      → ComparesAll source target from now to there (Err (copies.Longer (slice_index (done_of target) place)))
   compared_past inside over = record {
     from_read = so_far.from_read;
     to_read = so_far.to_read;
     same = tt;
     first = tt;
     ends = λ alone whole_s whole_u.
-        subst (λ (n : ℕ). IsFirstPast now there (slice_index target.done.items n)) so_far.count
+        subst (λ (n : ℕ). IsFirstPast now there (slice_index (done_of target) n)) so_far.count
         (past (can_on so_far.from_read.called can_s) (can_on so_far.to_read.called can_u)
         (subst IsTrue (sym so_far.from_read.called.tells) alone.from_tells)
         (subst IsTrue (sym so_far.to_read.called.tells) alone.to_tells)
@@ -336,17 +336,17 @@ module _ {source target : AuditedVolume} {from now to there : DeviceState} {move
   }
 
   -- all were compared
-  pub compared_all : (pairs : Vec Moved) → pairs.items ≡ moved → place ≡ length target.done.items
+  pub compared_all : (pairs : Vec Moved) → pairs.items ≡ moved → place ≡ length (done_of target)
       → ComparesAll source target from now to there (Ok pairs)
   compared_all pairs is at_end = record {
     from_read = so_far.from_read;
     to_read = so_far.to_read;
     same = subst (λ (l : List Moved). IsTrue from.tells → IsTrue to.tells → PairsHold now there l) (sym is) so_far.same;
-    first = subst (λ (l : List Moved). AreOfFirst source.done.items l) (sym is) so_far.first;
+    first = subst (λ (l : List Moved). AreOfFirst (done_of source) l) (sym is) so_far.first;
     ends = λ alone whole_s whole_u.
         let a = so_far.agree alone whole_s whole_u in
         let whole = whole_on device_there so_far.to_read alone.to_alone whole_u in
-        let count : length a.target ≡ length target.done.items =
+        let count : length a.target ≡ length (done_of target) =
         sym (slots_length a.target) ∙ ap (λ (l : List ℕ). length l) (whole.slots a.target a.these) in
         subst (λ (l : List Moved). CopiedSoFar now there l) (sym is) (record {
           agree = a;
@@ -365,8 +365,8 @@ module _ {source target : AuditedVolume} {from now to there : DeviceState} {move
     all_to : IsOnlyRead to then
     all_to = read_then so_far.to_read next.to_read
 
-    module _ (alone : AreAlone from new to then) (whole_s : IsWholeVolume from source.done.items)
-        (whole_u : IsWholeVolume to target.done.items) where
+    module _ (alone : AreAlone from new to then) (whole_s : IsWholeVolume from (done_of source))
+        (whole_u : IsWholeVolume to (done_of target)) where
       before : AreAlone from now to there
       before = alone_first so_far.from_read.called next.from_read.called so_far.to_read.called next.to_read.called alone
 
@@ -375,10 +375,10 @@ module _ {source target : AuditedVolume} {from now to there : DeviceState} {move
           (alone_second so_far.from_read.called next.from_read.called so_far.to_read.called next.to_read.called alone)
           (so_far.agree before whole_s whole_u)
 
-      pub whole_new : IsWholeVolume new source.done.items
+      pub whole_new : IsWholeVolume new (done_of source)
       whole_new = whole_on device_new all_from alone.from_alone whole_s
 
-      pub whole_then : IsWholeVolume then target.done.items
+      pub whole_then : IsWholeVolume then (done_of target)
       whole_then = whole_on device_then all_to alone.to_alone whole_u
 
       pub tells_new : IsTrue new.tells
@@ -388,7 +388,7 @@ module _ {source target : AuditedVolume} {from now to there : DeviceState} {move
       tells_then = subst IsTrue (sym all_to.called.tells) alone.to_tells
 
       -- the pair says the same
-      pub one_more : place < length source.done.items → place < length target.done.items → (pair : Moved)
+      pub one_more : place < length (done_of source) → place < length (done_of target) → (pair : Moved)
           → FindsSame source target place new then pair.old pair.new → AgreeSoFar new then (moved ++ pair ∷ [])
       one_more within inside pair finds =
           let f = subst (λ (n : ℕ). FindsSame source target n new then pair.old pair.new) (sym so_far.count) finds in
@@ -397,7 +397,7 @@ module _ {source target : AuditedVolume} {from now to there : DeviceState} {move
           f.read pair refl refl f.same
 
       -- it does not
-      pub one_other : place < length source.done.items → place < length target.done.items → (old fresh : ℕ)
+      pub one_other : place < length (done_of source) → place < length (done_of target) → (old fresh : ℕ)
           → FindsOther source target place new then old fresh → IsFirstToDiffer new then old fresh
       one_other within inside old fresh finds =
           let f = subst (λ (n : ℕ). FindsOther source target n new then old fresh) (sym so_far.count) finds in
@@ -408,7 +408,7 @@ module _ {source target : AuditedVolume} {from now to there : DeviceState} {move
 pub compared_more : {source target : AuditedVolume} {from now to there new then : DeviceState} {moved : List Moved}
     {place : ℕ} → CanBeRead from source → CanBeRead to target
     → ComparedSoFar source target from now to there moved place → IsDevice now → IsDevice there → IsDevice new
-    → IsDevice then → place < length source.done.items → place < length target.done.items → (pair : Moved)
+    → IsDevice then → place < length (done_of source) → place < length (done_of target) → (pair : Moved)
     → ComparesNext source target place now new there then (Ok pair)
     → ComparedSoFar source target from new to then (moved ++ pair ∷ []) (place + 1)
 compared_more {source} {moved = moved} can_s can_u so_far device_now device_there device_new device_then within inside
@@ -426,15 +426,15 @@ compared_more {source} {moved = moved} can_s can_u so_far device_now device_ther
           (pairs_hold_on next.from_read.called next.to_read.called moved (so_far.same from_tells to_tells))
           (hold_same (can_on p can_s) (can_on q can_u) (subst IsTrue (sym p.tells) from_tells)
           (subst IsTrue (sym q.tells) to_tells) pair.old pair.new next.ends);
-      first = first_push source.done.items moved pair (omega (arith, so_far.count, within))
-          (next.ends.read.old_is ∙ ap (λ (n : ℕ). slice_index source.done.items n) (sym so_far.count)) so_far.first;
+      first = first_push (done_of source) moved pair (omega (arith, so_far.count, within))
+          (next.ends.read.old_is ∙ ap (λ (n : ℕ). slice_index (done_of source) n) (sym so_far.count)) so_far.first;
     }
 
 -- one was not compared, or differs
 pub compared_fails : {source target : AuditedVolume} {from now to there new then : DeviceState} {moved : List Moved}
     {place : ℕ} → CanBeRead from source → CanBeRead to target
     → ComparedSoFar source target from now to there moved place → IsDevice now → IsDevice there → IsDevice new
-    → IsDevice then → place < length source.done.items → place < length target.done.items → (refusal : CopyRefusal)
+    → IsDevice then → place < length (done_of source) → place < length (done_of target) → (refusal : CopyRefusal)
     → ComparesNext source target place now new there then (Err refusal)
     → ComparesAll source target from new to then (Err refusal)
 compared_fails {source} {target} {from} {now} {to} {there} {new} {then} {moved} {place} can_s can_u so_far device_now
@@ -467,7 +467,7 @@ compared_fails {source} {target} {from} {now} {to} {there} {new} {then} {moved} 
 
 -- both documents of a place
 abbrev pub reads_both : {source target : AuditedVolume} {place : ℕ} {from from' to to' : DeviceState} (old new : ℕ)
-    → old ≡ slice_index source.done.items place → new ≡ slice_index target.done.items place → (one other : StoredCopy)
+    → old ≡ slice_index (done_of source) place → new ≡ slice_index (done_of target) place → (one other : StoredCopy)
     → Called from from' → Called to to' → (IsTrue from.tells → HoldsCopy source.volume.geometry from'.image old one)
     → (IsTrue to.tells → HoldsCopy target.volume.geometry to'.image new other)
     → ReadsBoth source target place from' to' old new

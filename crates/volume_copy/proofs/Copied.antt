@@ -29,7 +29,7 @@ use Rattle.worm_device.proofs.Elapsing.{called_self, called_then}
 use Rattle.ingest_engine.specs.Ingesting.{document_in}
 use Rattle.crash_laws.specs.SettlingSteadiness.{IsSteady}
 use Rattle.volume_copy.specs.Adding.{AddsRest, RestFails}
-use Rattle.volume_copy.specs.Auditing.{AuditsSteady, HasAudited, IsWholeVolume, RefusesVolume, by_reading}
+use Rattle.volume_copy.specs.Auditing.{AuditsSteady, HasAudited, IsWholeVolume, RefusesVolume, by_reading, done_of}
 use Rattle.volume_copy.specs.Beginning.{BeginEnds, BeginsCopy}
 use Rattle.volume_copy.specs.Alone.{AreAlone}
 use Rattle.volume_copy.specs.Copies.{Copies, CopiesWhole, CopyEnds, HasCopied, HasNumbers, IsFirstThroughout, IsKeptThere, IsOfTarget, KeepsAll, RefusesTo, by_format, by_ingest, by_look, by_volume}
@@ -194,7 +194,7 @@ refuses_from behind (by_ingest between id stamp body called of_source next inges
 
 -- the source is whole behind its audit
 whole_audited : {source : AuditedVolume} {from audited new x y : DeviceState} → HasAudited from audited source
-    → Called audited new → AreAlone from new x y → IsWholeVolume audited source.done.items
+    → Called audited new → AreAlone from new x y → IsWholeVolume audited (done_of source)
 whole_audited audit called alone = audit.whole alone.from_tells
     (still_first audit.called.foreign_writes called.foreign_writes alone.from_alone)
 
@@ -204,7 +204,7 @@ module _ {slots lists : ℕ} {source : AuditedVolume} {from audited from1 to to1
   -- the source, once the target has begun
   module _ {x : DeviceState} {result : Result (Vec Moved) CopyRefusal} (begins : BeginsCopy slots lists source audited from1 to to1 result)
       (alone : AreAlone from from1 to x) (steady : IsSteady to) (to_alone : IsStill to.foreign_writes to1.foreign_writes) where
-    whole1 : IsWholeVolume from1 source.done.items
+    whole1 : IsWholeVolume from1 (done_of source)
     whole1 = whole_on device1 begins.from_read
         (still_second audit.called.foreign_writes begins.from_read.called.foreign_writes alone.from_alone)
         (whole_audited audit begins.from_read.called alone)
@@ -384,7 +384,7 @@ module _ {slots lists : ℕ} {source : AuditedVolume} {from audited from1 to to1
             journal = stands.journal;
             done = stands.done;
           }) in
-          let named = pair_for source.done.items new.items d.slot (rest.ends.2 begins.first) rest.ends.0
+          let named = pair_for (done_of source) new.items d.slot (rest.ends.2 begins.first) rest.ends.0
           (audit.all tells d.slot done) in
           record {
             pair = named.0;
@@ -409,7 +409,7 @@ module _ {slots lists : ℕ} {source : AuditedVolume} {from audited from1 to to1
         same = all_same new rest;
         left_out = none_out new rest;
         in_order = subst (λ (l : List ℕ). RiseFrom 0 l)
-            (sym (all_first source.done.items new.items (rest.ends.2 begins.first) rest.ends.0)) audit.rise;
+            (sym (all_first (done_of source) new.items (rest.ends.2 begins.first) rest.ends.0)) audit.rise;
         untouched = λ other. absurd other;
         complete = λ free. tt;
         ends = λ alone.

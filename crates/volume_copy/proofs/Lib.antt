@@ -6,6 +6,7 @@ pub mod First
 mod ForRoom
 mod OnePairs
 pub mod PairLists
+pub mod PartSlots
 pub mod Slots
 pub mod Stayed
 mod Unhindered

@@ -13,21 +13,21 @@ use Rattle.cell_types.specs.declared.refusal.Refusal.TheVariants.{DeviceFault, N
 use Rattle.volume_meaning.specs.Documents.{stored_bytes, Spells, document_at}
 use Rattle.volume_meaning.specs.Slots.{IsDone, IsDoneSlot, IsStampOf, Stores}
 use Rattle.volume_meaning.specs.Volumes.{IsVolume}
-use Rattle.volume_meaning.proofs.Extending.{done_slot_on, holds_on, volume_on}
+use Rattle.volume_meaning.proofs.Extending.{holds_on, volume_on}
 use Rattle.tamper_rules.specs.Rules.{Documents, HasDocument, IsBroken}
 use Rattle.tamper_rules.specs.declared.numbers.TheConstants.{BROKEN_DOCUMENT}
 use Rattle.tamper_rules.proofs.Images.{same_image}
 use Rattle.worm_device.specs.State.{DeviceState}
 use Rattle.worm_device.specs.Views.{ViewState, Viewed, seen_directly}
-use Rattle.worm_device.proofs.Images.{extends_self}
 use Rattle.worm_device.proofs.Resting.{rests_of}
 use Rattle.commit_record.specs.Licences.{IsLicensed}
 use Rattle.commit_record.specs.Stamps.{IsStampOrNone}
-use Rattle.document_store.specs.Looks.{HoldsBody, HoldsIdentifier, IdentifierEnds, LookFails, NamesDocument, of_document, of_state}
+use Rattle.document_store.specs.Looks.{LookFails, NamesDocument, commit_breach, of_document, of_state}
+use Rattle.document_store.specs.declared.part.Part.{Part}
 use Rattle.document_store.specs.Standing.{HoldsDocument}
-use Rattle.document_store.proofs.Holding.{held_is_one, held_on}
+use Rattle.document_store.proofs.Holding.{held_on}
 use Rattle.document_store.proofs.Naming.{names_from, told}
-use Rattle.volume_copy.specs.Reading.{CopyReadEnds, HoldsCopy, IsOnlyRead, NamesCell, ReadingFails, ReadsStored, SlotFails, StoredEnds}
+use Rattle.volume_copy.specs.Reading.{CopyReadEnds, HoldsCopy, IsOnlyRead, ReadingFails, ReadsStored, SlotFails, StoredEnds}
 use Rattle.volume_copy.specs.declared.stored.StoredCopy.{StoredCopy}
 
 module _ (g : Layout) (n : ℕ) where
@@ -36,19 +36,6 @@ module _ (g : Layout) (n : ℕ) where
       → SlotFails g n old new (refusal_of_fault fault)
   look_fails old new faults.Failed fails = fails
   look_fails old new (faults.Tampered e) fails = λ tells. (fails.0, fails.2 tells)
-
-  pub identifier_fails : (old new : ViewState) (refusal : Refusal) → IdentifierEnds g n old new (Err refusal)
-      → SlotFails g n old new refusal
-  identifier_fails old new NoMemory ends = tt
-  identifier_fails old new DeviceFault ends = ends
-  identifier_fails old new (Tampered e) ends = λ tells. (ends.0, ends.2 tells)
-  identifier_fails old new refusal ends = absurd ends
-
-  -- a cell is named only over a view that does not tell
-  pub unheld_fails : (old new : ViewState) (refusal : Refusal) → NamesCell refusal → (IsTrue old.base.tells → ⊥)
-      → SlotFails g n old new refusal
-  unheld_fails old new refusal named never =
-      subst (SlotFails g n old new) (sym named.is) (λ tells. absurd (never tells))
 
   -- from an earlier state on
   pub fails_later : {old mid new : ViewState} → Viewed old mid → Viewed mid new → (refusal : Refusal)
@@ -59,12 +46,6 @@ module _ (g : Layout) (n : ℕ) where
       let named = fails (told before tells) in (named.0, names_from g before after n named.1)
   fails_later before after refusal fails = absurd fails
 
-  -- a slot that is done goes on being so
-  pub done_later : {old new : ViewState} → Viewed old new → (IsTrue old.base.tells → IsDoneSlot g old.image n)
-      → IsTrue new.base.tells → IsDoneSlot g new.image n
-  done_later {old} v done tells =
-      done_slot_on (extends_self old.image) v.image (done (subst IsTrue v.called.tells tells))
-
   -- a done slot of a volume of stamped documents has a stamp
   pub has_stamp : {old new : ViewState} → Viewed old new → g.version ≡ STAMPED_VERSION
       → (IsTrue old.base.tells → IsDoneSlot g old.image n) → (IsTrue old.base.tells → IsStampOrNone new.image n None)
@@ -73,21 +54,20 @@ module _ (g : Layout) (n : ℕ) where
       let is = (done tells).done.commits.stamped stamped in
       none tells is.seconds (holds_on v.image is.stamp)
 
+  -- over a view that tells, the commit cell is not named for want of a stamp
+  pub never_named : (old new : ViewState) (part : Part) → (IsTrue old.base.tells → ⊥)
+      → SlotFails g n old new (refusal_of_fault (commit_breach part))
+  never_named old new part never = λ tells. absurd (never tells)
+
   -- what was read one after another is one document
-  pub reads_copy : {s t u v : ViewState} → Viewed s t → Viewed t u → Viewed u v → (copy : StoredCopy)
-      → (IsTrue s.base.tells → HoldsIdentifier g t.image n copy.identifier.items)
-      → (IsTrue t.base.tells → HoldsBody g u.image n copy.body.held)
-      → (IsTrue u.base.tells → IsStampOf g v.image n copy.stamp) → IsTrue s.base.tells → HoldsCopy g v.image n copy
-  reads_copy {s} {t} {u} {v} first second third copy identifier body stamp tells =
-      let one = identifier tells in
-      let two = body (told first tells) in
-      let one_later = held_on third.image (held_on second.image one.holds) in
-      let two_later = held_on third.image two.holds in
-      let same = held_is_one g v.image n copy.identifier.items one.body two.id copy.body.held one_later two_later in
-      record {
-        holds = subst (λ (b : List ℕ). HoldsDocument g v.image n copy.identifier.items b) same.1 one_later;
-        stamped = stamp (told second (told first tells));
-      }
+  pub reads_copy : {s t u : ViewState} → Viewed s t → Viewed t u → (copy : StoredCopy) (own : List ℕ)
+      → copy.identifier ≡ own → (IsTrue t.base.tells → HoldsDocument g t.image n own copy.body.held)
+      → (IsTrue t.base.tells → IsStampOf g u.image n copy.stamp) → IsTrue s.base.tells → HoldsCopy g u.image n copy
+  reads_copy {s} {t} {u} first second copy own is holds stamp tells = record {
+    holds = subst (λ (i : List ℕ). HoldsDocument g u.image n i copy.body.held) (sym is)
+        (held_on second.image (holds (told first tells)));
+    stamped = stamp (told first tells);
+  }
 
   -- a done slot that holds no document breaks the rule of documents at its commit cell
   broken : {cells : ℕ} {image : Image} {rule cell : ℕ} → IsVolume cells image g → rule ≡ BROKEN_DOCUMENT

@@ -3,7 +3,6 @@ use Rattle.std.proofs.Common.{◌≡◌, ◌<◌, ◌+◌, ◌⊎◌, ◌∙◌,
 use Rattle.std.specs.Prelude.{Contains, IsTrue, slice_index}
 use Rattle.std.specs.Global.{Vec}
 use Rattle.std.proofs.lemmas.Bool.{cases_order}
-use Rattle.std.proofs.lemmas.List.Elements.{Contains-get_or}
 use Rattle.std.proofs.lemmas.Option.{none-some}
 use Rattle.cell_types.specs.Image.{Extends, Image}
 use Rattle.cell_types.specs.Layout.{Layout, reserve_at}
@@ -35,7 +34,8 @@ use Rattle.volume_audit.specs.Reports.{IsSound}
 use Rattle.volume_audit.specs.declared.report.AuditReport.{AuditReport}
 use Rattle.volume_copy.specs.Auditing.{HasAudited, IsWholeVolume, RefusesVolume, by_audit, by_reading, by_settling}
 use Rattle.volume_copy.specs.Pairs.{slots_of}
-use Rattle.volume_copy.specs.Reading.{IsOnlyRead, ReadingFails, RiseFrom}
+use Rattle.volume_copy.specs.Reading.{IsOnlyRead, ReadingFails, RiseFrom, part_slots}
+use Rattle.document_store.specs.declared.part.Part.{Part}
 use Rattle.volume_copy.specs.Walking.{AreDoneBelow, RiseBelow, CopyWalkEnds}
 
 -- a document that stands in a settled volume is one of its documents
@@ -273,37 +273,34 @@ module _ {old a b new : DeviceState} {report : AuditReport} (r : Ready) (audits 
       taken : IsWritten was.0 (reserve_at n)
       taken = written reserves
 
-  module _ (slots : Vec ℕ) (walk : CopyWalkEnds r.volume.geometry r.horizon b new (Ok slots)) where
-    all : IsTrue old.tells → (n : ℕ) → IsDoneSlot r.volume.geometry old.image n → Contains slots.items n
-    all tells n done = (walk.1 (tells_b tells)).all n (lies_below tells n done)
+  module _ (parts : Vec Part) (walk : CopyWalkEnds r.volume.geometry r.horizon b new (Ok parts)) where
+    abbrev slots : List ℕ
+    slots = part_slots parts.items
+
+    all : IsTrue old.tells → (n : ℕ) → IsDoneSlot r.volume.geometry old.image n → Contains slots n
+    all tells n done = (walk.2 (tells_b tells)).all n (lies_below tells n done)
         (done_slot_on (extends_self old.image) up_to_b.image done)
 
-    among : (place : ℕ) → place < length slots.items → Contains slots.items (slice_index slots.items place)
-    among place less = Contains-get_or slots.items place 0 less
-
-    whole : IsTrue old.tells → IsStill old.foreign_writes new.foreign_writes → IsWholeVolume new slots.items
+    whole : IsTrue old.tells → IsStill old.foreign_writes new.foreign_writes → IsWholeVolume new slots
     whole tells still =
-        let done_new : AreDoneBelow r.volume.geometry new.image new.image r.horizon slots.items =
-        subst (λ (i : Image). AreDoneBelow r.volume.geometry i new.image r.horizon slots.items) (sym (same_new tells still))
-        (walk.1 (tells_b tells)) in
+        let done_new : AreDoneBelow r.volume.geometry new.image new.image r.horizon slots =
+        subst (λ (i : Image). AreDoneBelow r.volume.geometry i new.image r.horizon slots) (sym (same_new tells still))
+        (walk.2 (tells_b tells)) in
         record {
           settled = settled_new tells still;
           sure = λ cell. ap (λ (i : Image). i cell) (sure_new tells still);
           slots = λ documents are. same_slots new.cells new.image r.volume.geometry (volume_new tells)
-              (settled_new tells still) r.horizon (horizon tells still) slots.items walk.0 done_new documents are;
+              (settled_new tells still) r.horizon (horizon tells still) slots walk.0 done_new documents are;
         }
 
-    pub has_audited : HasAudited old new (record { volume = r.volume; done = slots })
+    pub has_audited : HasAudited old new (record { volume = r.volume; parts = parts })
     has_audited = record {
       called = all_of_it;
       version = settles.ends.0.version;
       layout = settles.ends.0.layout;
       size = settles.ends.0.size ∙ sym read.called.cells;
-      below = λ place less.
-          let low = walk.0.below (slice_index slots.items place) (among place less) in
-          omega (arith, low, settles.ends.0.horizon);
+      parts = walk.1;
       is_volume = volume_new;
-      done = λ tells place less. (walk.1 (tells_b tells)).done _ (among place less);
       rise = walk.0.rise;
       all = all;
       whole = whole;

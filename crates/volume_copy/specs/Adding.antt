@@ -5,7 +5,7 @@ use Rattle.cell_types.specs.declared.refusal.CopyRefusal.{CopyRefusal}
 use Rattle.cell_types.specs.declared.refusal.CopyRefusal.TheVariants.{From, NoMemory, To}
 use Rattle.cell_types.specs.declared.refusal.Refusal.{Refusal}
 use Rattle.cell_types.specs.declared.refusal.Refusal.TheVariants as refusals
-use Rattle.volume_meaning.specs.Slots.{IsDoneSlot, IsStampOf}
+use Rattle.volume_meaning.specs.Slots.{IsStampOf}
 use Rattle.volume_meaning.specs.Volumes.{IsVolume}
 use Rattle.worm_device.specs.Calls.{Called}
 use Rattle.worm_device.specs.State.{DeviceState}
@@ -14,21 +14,20 @@ use Rattle.ingest_engine.specs.Ingesting.{Ingests}
 use Rattle.volume_copy.specs.Alone.{AreAlone, AreUnfailed}
 use Rattle.volume_copy.specs.Completing.{AreOfOneVersion, EndsUnhindered}
 use Rattle.volume_copy.specs.First.{StaysFirst}
-use Rattle.volume_copy.specs.Auditing.{IsWholeVolume}
+use Rattle.volume_copy.specs.Auditing.{IsWholeVolume, done_of}
+use Rattle.volume_copy.specs.Walking.{AreFound}
+use Rattle.worm_device.specs.Views.{seen_directly}
 use Rattle.volume_copy.specs.Pairs.{AreOfFirst, CopiedSoFar, IsNextToCopy, PairsHold}
 use Rattle.volume_copy.specs.Reading.{IsOnlyRead, ReadingFails}
 use Rattle.volume_copy.specs.Staying.{IsSoundThroughout}
 use Rattle.volume_copy.specs.declared.audited.AuditedVolume.{AuditedVolume}
 use Rattle.volume_copy.specs.declared.moved.Moved.{Moved}
 
--- The slots lie in the volume, and where the device tells they are done slots of it.
+-- The parts are such ones as were found, and where the device tells cell 0 states the volume.
 pub record CanBeRead (s : DeviceState) (volume : AuditedVolume) : Type 0 where
   pub size : volume.volume.geometry.cells ≡ s.cells
-  pub below : (place : ℕ) → place < length volume.done.items
-      → slice_index volume.done.items place < volume.volume.geometry.slots
   pub is_volume : IsTrue s.tells → IsVolume s.cells s.image volume.volume.geometry
-  pub done : IsTrue s.tells → (place : ℕ) → place < length volume.done.items
-      → IsDoneSlot volume.volume.geometry s.image (slice_index volume.done.items place)
+  pub parts : AreFound volume.volume.geometry (seen_directly s 0) volume.parts.items
 
 -- A document was ingested, and where the source tells it is the one that slot n holds there.
 pub record IngestsOf (g : Layout) (n : ℕ) (from old new : DeviceState) (result : Result ℕ Refusal) : Type 0 where
@@ -52,16 +51,16 @@ AddFails g n from from' to to' refusal = ⊥
 abbrev pub AddDocumentEnds
     : AuditedVolume → ℕ → DeviceState → DeviceState → DeviceState → DeviceState → Result Moved CopyRefusal → Type 0
 AddDocumentEnds source place from from' to to' (Ok pair) =
-    (pair.old ≡ slice_index source.done.items place)
+    (pair.old ≡ slice_index (done_of source) place)
     × IngestsOf source.volume.geometry pair.old from' to to' (Ok pair.new)
 AddDocumentEnds source place from from' to to' (Err refusal) =
-    AddFails source.volume.geometry (slice_index source.done.items place) from from' to to' refusal
+    AddFails source.volume.geometry (slice_index (done_of source) place) from from' to to' refusal
 
 -- where nobody else writes, the source is whole, and so much was copied
 abbrev pub WhereCopied
     : AuditedVolume → DeviceState → DeviceState → DeviceState → DeviceState → List Moved → Type 0 → Type 0
 WhereCopied source from from' to to' moved P =
-    AreAlone from from' to to' → IsWholeVolume from source.done.items → CopiedSoFar from to moved → P
+    AreAlone from from' to to' → IsWholeVolume from (done_of source) → CopiedSoFar from to moved → P
 
 -- then, where no call fails and both volumes have one version, nothing else hinders
 abbrev pub Completes
@@ -111,8 +110,8 @@ abbrev pub RestEnds
     : AuditedVolume → DeviceState → DeviceState → DeviceState → DeviceState → List Moved → List Moved
     → Result Unit CopyRefusal → Type 0
 RestEnds source from from' to to' moved moved' (Ok u) =
-    (length source.done.items ≤ length moved') × CopyGoesOn source from from' to to' moved moved'
-    × (AreOfFirst source.done.items moved → AreOfFirst source.done.items moved')
+    (length (done_of source) ≤ length moved') × CopyGoesOn source from from' to to' moved moved'
+    × (AreOfFirst (done_of source) moved → AreOfFirst (done_of source) moved')
 RestEnds source from from' to to' moved moved' (Err refusal) =
     RestFails source moved from from' to to' refusal
 

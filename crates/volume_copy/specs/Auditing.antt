@@ -11,13 +11,19 @@ use Rattle.tamper_rules.specs.Settling.{Settled, Sound}
 use Rattle.worm_device.specs.Calls.{Called}
 use Rattle.worm_device.specs.Counts.{IsStill}
 use Rattle.worm_device.specs.State.{DeviceState}
+use Rattle.worm_device.specs.Views.{seen_directly}
 use Rattle.recovery_engine.specs.Settling.{Settles}
 use Rattle.command_laws.specs.WholeLogs.{HasSteadyVolume}
 use Rattle.volume_audit.specs.Audits.{Audits}
 use Rattle.volume_audit.specs.declared.report.AuditReport.{AuditReport}
 use Rattle.volume_copy.specs.Pairs.{slots_of}
-use Rattle.volume_copy.specs.Reading.{ReadingFails, RiseFrom}
+use Rattle.volume_copy.specs.Reading.{ReadingFails, RiseFrom, part_slots}
+use Rattle.volume_copy.specs.Walking.{AreFound}
 use Rattle.volume_copy.specs.declared.audited.AuditedVolume.{AuditedVolume}
+
+-- the slots of its documents
+abbrev pub done_of : AuditedVolume → List ℕ
+done_of volume = part_slots volume.parts.items
 
 -- Why a volume is not read: its audit refuses; or it was audited, and settling refuses behind it, or a look at its slots.
 pub data RefusesVolume (old new : DeviceState) (refusal : Refusal) : Type 0 where
@@ -39,14 +45,11 @@ pub record HasAudited (old new : DeviceState) (volume : AuditedVolume) : Type 0 
   pub version : volume.volume.version ≡ volume.volume.geometry.version
   pub layout : IsLayout volume.volume.geometry
   pub size : volume.volume.geometry.cells ≡ new.cells
-  pub below : (place : ℕ) → place < length volume.done.items
-      → slice_index volume.done.items place < volume.volume.geometry.slots
+  pub parts : AreFound volume.volume.geometry (seen_directly new 0) volume.parts.items
   pub is_volume : IsTrue old.tells → IsVolume new.cells new.image volume.volume.geometry
-  pub done : IsTrue old.tells → (place : ℕ) → place < length volume.done.items
-      → IsDoneSlot volume.volume.geometry new.image (slice_index volume.done.items place)
-  pub rise : RiseFrom 0 volume.done.items
-  pub all : IsTrue old.tells → (n : ℕ) → IsDoneSlot volume.volume.geometry old.image n → Contains volume.done.items n
-  pub whole : IsTrue old.tells → IsStill old.foreign_writes new.foreign_writes → IsWholeVolume new volume.done.items
+  pub rise : RiseFrom 0 (done_of volume)
+  pub all : IsTrue old.tells → (n : ℕ) → IsDoneSlot volume.volume.geometry old.image n → Contains (done_of volume) n
+  pub whole : IsTrue old.tells → IsStill old.foreign_writes new.foreign_writes → IsWholeVolume new (done_of volume)
   pub settles : IsTrue old.tells → IsStill old.foreign_writes new.foreign_writes → (sound : Sound old.cells old.image)
       → new.image ≡ sound.after
 

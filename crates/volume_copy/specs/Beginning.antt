@@ -9,7 +9,7 @@ use Rattle.cell_types.specs.declared.refusal.Refusal.TheVariants as refusals
 use Rattle.volume_meaning.specs.Volumes.{IsVolume, volume_record}
 use Rattle.worm_device.specs.Calls.{Called}
 use Rattle.worm_device.specs.State.{DeviceState}
-use Rattle.volume_copy.specs.Auditing.{IsWholeVolume}
+use Rattle.volume_copy.specs.Auditing.{IsWholeVolume, done_of}
 use Rattle.crash_laws.specs.SettlingSteadiness.{IsSteady}
 use Rattle.volume_copy.specs.Alone.{AreAlone, AreUnfailed}
 use Rattle.volume_copy.specs.Completing.{EndsUnhindered}
@@ -42,7 +42,7 @@ HaveNumbers slots lists from to =
 -- where nobody else writes, and the source is whole
 abbrev pub WhereSourceWhole : AuditedVolume → DeviceState → DeviceState → DeviceState → DeviceState → Type 0 → Type 0
 WhereSourceWhole source from from' to to' P =
-    AreAlone from from' to to' → IsWholeVolume from source.done.items → P
+    AreAlone from from' to to' → IsWholeVolume from (done_of source) → P
 
 -- how it may end, and why
 abbrev pub BeginEnds
@@ -69,7 +69,7 @@ BeginEnds slots lists source from from' to to' (Err refusal) = ⊥
 pub record IsCopyFree (source : AuditedVolume) (from from' to to' : DeviceState) : Type 0 where
   pub alone : AreAlone from from' to to'
   pub unfailed : AreUnfailed from from' to to'
-  pub whole : IsWholeVolume from source.done.items
+  pub whole : IsWholeVolume from (done_of source)
   pub steady : IsSteady to
   pub first : HoldsFirst from.cells from.image to.cells to.image
 
@@ -79,7 +79,7 @@ pub record BeginsCopy (slots lists : ℕ) (source : AuditedVolume) (from from' t
   pub to_called : Called to to'
   pub to_held : IsHeldThroughout to to'
   pub same : AnsweredHold from from' to to' result
-  pub first : AnsweredFirst source.done.items result
+  pub first : AnsweredFirst (done_of source) result
   pub complete : IsCopyFree source from from' to to' → EndsUnhindered result
   pub ends : BeginEnds slots lists source from from' to to' result
 

@@ -5,7 +5,7 @@ use Rattle.cell_types.specs.declared.refusal.CopyRefusal.{CopyRefusal}
 use Rattle.cell_types.specs.declared.refusal.CopyRefusal.TheVariants.{Differs, From, Longer, NoMemory, To}
 use Rattle.cell_types.specs.declared.refusal.Refusal.TheVariants as refusals
 use Rattle.worm_device.specs.State.{DeviceState}
-use Rattle.volume_copy.specs.Auditing.{IsWholeVolume}
+use Rattle.volume_copy.specs.Auditing.{IsWholeVolume, done_of}
 use Rattle.volume_copy.specs.Alone.{AreAlone}
 use Rattle.volume_copy.specs.Copies.{HoldOthers, IsFirstPast, IsFirstToDiffer}
 use Rattle.volume_copy.specs.Pairs.{AnsweredFirst, AnsweredHold, CopiedSoFar}
@@ -16,14 +16,14 @@ use Rattle.volume_copy.specs.declared.stored.StoredCopy.{StoredCopy}
 
 -- both documents have the same identifier, body and stamp
 pub record IsSameCopy (one other : StoredCopy) : Type 0 where
-  pub identifier : one.identifier.items ≡ other.identifier.items
+  pub identifier : one.identifier ≡ other.identifier
   pub body : one.body.held ≡ other.body.held
   pub stamp : one.stamp ≡ other.stamp
 
 -- The documents of a place were read on both sides, where both tell, and these are their slots.
 pub record ReadsBoth (source target : AuditedVolume) (place : ℕ) (from to : DeviceState) (old new : ℕ) : Type 0 where
-  pub old_is : old ≡ slice_index source.done.items place
-  pub new_is : new ≡ slice_index target.done.items place
+  pub old_is : old ≡ slice_index (done_of source) place
+  pub new_is : new ≡ slice_index (done_of target) place
   pub one : StoredCopy
   pub other : StoredCopy
   pub there : IsTrue from.tells → HoldsCopy source.volume.geometry from.image old one
@@ -61,7 +61,7 @@ pub record ComparesNext (source target : AuditedVolume) (place : ℕ) (from from
 -- where nobody else writes, and both volumes are whole
 abbrev pub WhereWhole : AuditedVolume → AuditedVolume → DeviceState → DeviceState → DeviceState → DeviceState → Type 0 → Type 0
 WhereWhole source target from from' to to' P =
-    AreAlone from from' to to' → IsWholeVolume from source.done.items → IsWholeVolume to target.done.items → P
+    AreAlone from from' to to' → IsWholeVolume from (done_of source) → IsWholeVolume to (done_of target) → P
 
 -- how comparing all documents of the target may end, and why
 abbrev pub CompareVolumesEnds
@@ -86,5 +86,5 @@ pub record ComparesAll (source target : AuditedVolume) (from from' to to' : Devi
   pub from_read : IsOnlyRead from from'
   pub to_read : IsOnlyRead to to'
   pub same : AnsweredHold from from' to to' result
-  pub first : AnsweredFirst source.done.items result
+  pub first : AnsweredFirst (done_of source) result
   pub ends : CompareVolumesEnds source target from from' to to' result

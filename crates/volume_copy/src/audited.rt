@@ -1,9 +1,10 @@
-//! A volume that was audited, and the slots of its documents.
+//! A volume that was audited, and where its documents lie.
 ghost use Rattle.volume_copy.specs.Auditing.{AuditsSteady, SourceEnds};
 ghost use Rattle.volume_copy.specs.Staying.{IsHeldThroughout};
 
-use crate::walking::done_slots;
+use crate::walking::done_parts;
 use cell_types::{Refusal, Volume};
+use document_store::Part;
 use host_ports::Meter;
 use recovery_engine::settle;
 use std::alloc::Global;
@@ -14,8 +15,8 @@ use worm_device::Device;
 #[derive(Drop)]
 pub(crate) struct AuditedVolume {
     pub volume: Volume,
-    /// The slots of its documents, by rising number.
-    pub done: Vec<u32>,
+    /// Where its documents lie, by rising number of their slots.
+    pub parts: Vec<Part>,
 }
 
 /// Audits the volume, and goes along its slots. An audit says how many documents there are, and not where: so the end of the
@@ -31,9 +32,9 @@ pub(crate) fn audited_volume<D: Device, M: Meter>(
 {
     let _report = audit_metered(alloc, device, meter)?;
     let ready = settle(device)?;
-    let done = done_slots(alloc, device, &ready.volume, ready.horizon)?;
+    let parts = done_parts(alloc, device, &ready.volume, ready.horizon)?;
     Ok(AuditedVolume {
         volume: ready.volume,
-        done,
+        parts,
     })
 }

@@ -25,9 +25,9 @@ pub(crate) fn compare<D: Device, E: Device>(
         result }
 {
     let mut moved = Vec::new(alloc);
-    for place in 0..target.done.len() {
-        if place >= source.done.len() {
-            return Err(CopyRefusal::Longer(target.done[place]));
+    for place in 0..target.parts.len() {
+        if place >= source.parts.len() {
+            return Err(CopyRefusal::Longer(target.parts[place].slot));
         }
         let pair = match compare_next(alloc, from, source, to, target, place) {
             Ok(pair) => pair,
@@ -47,22 +47,23 @@ fn compare_next<D: Device, E: Device>(
     target: &AuditedVolume,
     place: usize,
 ) -> Result<Moved, CopyRefusal>
-    requires inside { place < length source.now.done.items }
-    requires within { place < length target.now.done.items }
+    requires inside { place < length source.now.parts.items }
+    requires within { place < length target.now.parts.items }
     requires source { CanBeRead (D.state from.old) source.now }
     requires target { CanBeRead (E.state to.old) target.now }
     ensures { ComparesNext source.now target.now place (D.state from.old) (D.state from.new) (E.state to.old)
         (E.state to.new) result }
 {
-    let (old, new) = (source.done[place], target.done[place]);
-    let one = match read_stored(alloc, from, &source.volume, old) {
+    let (there, here) = (source.parts[place], target.parts[place]);
+    let one = match read_stored(alloc, from, &source.volume, &there) {
         Ok(one) => one,
         Err(refusal) => return Err(from_source(refusal)),
     };
-    let other = match read_stored(alloc, to, &target.volume, new) {
+    let other = match read_stored(alloc, to, &target.volume, &here) {
         Ok(other) => other,
         Err(refusal) => return Err(to_target(refusal)),
     };
+    let (old, new) = (there.slot, here.slot);
     if !is_same(&one, &other) {
         return Err(CopyRefusal::Differs { old, new });
     }
@@ -73,7 +74,7 @@ fn compare_next<D: Device, E: Device>(
 fn is_same(one: &StoredCopy, other: &StoredCopy) -> bool
     ensures { IsTrue result ↔ IsSameCopy one.now other.now }
 {
-    if one.identifier.as_slice() != other.identifier.as_slice() {
+    if one.identifier.bytes() != other.identifier.bytes() {
         return false;
     }
     if one.body.bytes() != other.body.bytes() {

@@ -1,21 +1,21 @@
-//! The slots of a volume's documents.
+//! Where a volume's documents lie.
 ghost use Rattle.std.specs.Prelude.{◌≡◌, ◌≤◌};
 ghost use Rattle.worm_device.specs.Views.{Viewed};
-ghost use Rattle.volume_copy.specs.Reading.{IsOnlyRead, RiseFrom};
+ghost use Rattle.volume_copy.specs.Reading.{IsOnlyRead};
 ghost use Rattle.volume_copy.specs.Walking.{CopyWalkEnds, WalksSlots};
 
 use cell_types::{Refusal, Volume, memory};
-use document_store::slot_part;
+use document_store::{Part, slot_part};
 use std::alloc::Global;
 use worm_device::{Device, Direct, View};
 
-/// The slots below a horizon that are done, by rising number. Reads the log cells of each slot below it.
-pub(crate) fn done_slots<D: Device>(
+/// Where the documents of the done slots below a horizon lie, by rising number. Reads the log cells of each slot below it.
+pub(crate) fn done_parts<D: Device>(
     alloc: Global,
     device: &mut D,
     volume: &Volume,
     horizon: u32,
-) -> Result<Vec<u32>, Refusal>
+) -> Result<Vec<Part>, Refusal>
     requires most { horizon ≤ volume.now.geometry.slots }
     requires size { volume.now.geometry.cells ≡ (D.state device.old).cells }
     ensures read { IsOnlyRead (D.state device.old) (D.state device.new) }
@@ -30,19 +30,19 @@ fn done_in<V: View>(
     view: &mut V,
     volume: &Volume,
     horizon: u32,
-) -> Result<Vec<u32>, Refusal>
+) -> Result<Vec<Part>, Refusal>
     requires most { horizon ≤ volume.now.geometry.slots }
     requires size { volume.now.geometry.cells ≤ (V.seen view.old).cells }
     ensures viewed { Viewed (V.seen view.old) (V.seen view.new) }
     ensures ends { WalksSlots volume.now.geometry horizon (V.seen view.old) (V.seen view.new) result }
 {
-    let mut done = Vec::new(alloc);
+    let mut parts = Vec::new(alloc);
     for slot in 0..horizon {
         let found = slot_part(view, volume, slot)?;
-        let Some(_part) = found else {
+        let Some(part) = found else {
             continue;
         };
-        memory::push(&mut done, slot)?;
+        memory::push(&mut parts, part)?;
     }
-    Ok(done)
+    Ok(parts)
 }

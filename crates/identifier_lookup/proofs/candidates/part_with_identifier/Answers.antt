@@ -1,5 +1,5 @@
 -- The slot is done, and its document was compared.
-use Rattle.std.proofs.Common.{arith}
+use Rattle.std.proofs.Common.{Ok, Err, true, false, arith}
 use Rattle.cell_types.proofs.Passed.{handed}
 use Rattle.document_store.proofs.Checking.{found_part}
 use Rattle.identifier_lookup.proofs.Comparing.{compared}
@@ -19,8 +19,8 @@ returns-in_err-same g c =
     (compared c.args.volume.now.geometry c.args.horizon c.args.named.now c.args.id.now (g.V.View.seen c.args.view.now)
     (g.V.View.seen c.slot_part.new.view) (g.V.View.seen c.same_identifier.new.view) c.in-Some.part
     c.in_ok-found.ensures.viewed (rw c.in-Some.is at c.in_ok-found.ensures.ends)
-    (omega (arith, c.if-named-horizon.false)) c.requires.horizon c.same_identifier.ensures.viewed _
-    c.in_err-same.ensures.ends c.in_ok-found.ensures.reads c.same_identifier.ensures.reads)
+    (omega (arith, c.if-named-horizon.false)) c.requires.horizon c.same_identifier.ensures.viewed
+    (Err c.in_err-same.field-0.0) c.in_err-same.ensures.ends c.in_ok-found.ensures.reads c.same_identifier.ensures.reads)
 
 -- it has another identifier
 pub returns-then-not-same : goal.returns-then-not-same
@@ -28,7 +28,7 @@ returns-then-not-same g c =
     compared c.args.volume.now.geometry c.args.horizon c.args.named.now c.args.id.now (g.V.View.seen c.args.view.now)
     (g.V.View.seen c.slot_part.new.view) (g.V.View.seen c.same_identifier.new.view) c.in-Some.part
     c.in_ok-found.ensures.viewed (rw c.in-Some.is at c.in_ok-found.ensures.ends)
-    (omega (arith, c.if-named-horizon.false)) c.requires.horizon c.same_identifier.ensures.viewed _
+    (omega (arith, c.if-named-horizon.false)) c.requires.horizon c.same_identifier.ensures.viewed (Ok false)
     (rw c.if-not-same.true at c.in_ok-same.ensures.ends) c.in_ok-found.ensures.reads c.same_identifier.ensures.reads
 
 -- or this one
@@ -37,5 +37,5 @@ returns g c =
     compared c.args.volume.now.geometry c.args.horizon c.args.named.now c.args.id.now (g.V.View.seen c.args.view.now)
     (g.V.View.seen c.slot_part.new.view) (g.V.View.seen c.same_identifier.new.view) c.in-Some.part
     c.in_ok-found.ensures.viewed (rw c.in-Some.is at c.in_ok-found.ensures.ends)
-    (omega (arith, c.if-named-horizon.false)) c.requires.horizon c.same_identifier.ensures.viewed _
+    (omega (arith, c.if-named-horizon.false)) c.requires.horizon c.same_identifier.ensures.viewed (Ok true)
     (rw c.if-not-same.false at c.in_ok-same.ensures.ends) c.in_ok-found.ensures.reads c.same_identifier.ensures.reads

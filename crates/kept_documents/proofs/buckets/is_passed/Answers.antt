@@ -1,7 +1,7 @@
 -- Each ending of a bucket with the digest's fingerprint, by the lemma of its kind.
-use Rattle.std.proofs.Common.{Ok, Err, true, false}
-use Rattle.worm_device.proofs.Resting.{viewed_self, viewed_then}
-use Rattle.document_store.proofs.Checking.{part_of_own, same_then}
+use Rattle.std.proofs.Common.{Ok, Err, true, false, arith}
+use Rattle.worm_device.proofs.Resting.{viewed_then}
+use Rattle.document_store.proofs.Checking.{found_part, same_then}
 use Rattle.kept_documents.proofs.PassedBuckets.{look_refutes, not_done, same_no, same_yes}
 use Rattle.kept_documents.proofs.buckets.is_passed.Goals as goal
 
@@ -20,11 +20,11 @@ returns-in_default g c =
     c.if-not-has_fingerprint.ensures _ h.viewed h.ends
 
 -- the part that was found can be asked
-pub part_has_identifier-requires-clause-part : goal.part_has_identifier-requires-clause-part
-part_has_identifier-requires-clause-part g c =
+pub same_identifier-requires-clause-part : goal.same_identifier-requires-clause-part
+same_identifier-requires-clause-part g c =
     let h = c.in-Ok.ensures in
-    part_of_own c.args.volume.now.geometry c.args.bucket.now.slot _ _ _ c.in-Some.part h.viewed (viewed_self _)
-    (rw c.in-Some.is at h.ends)
+    found_part c.args.volume.now.geometry c.args.bucket.now.slot _ _ c.in-Some.part h.viewed
+    (rw c.in-Some.is at h.ends) (omega arith)
 
 -- its document has the identifier
 pub returns-in-Ok-true : goal.returns-in-Ok-true
@@ -47,12 +47,12 @@ returns-in-Ok-false g c =
     (rw c.in-Some.is at h.ends) c.args.id.now (Ok false) (rw c.in-Ok-false.field-0-test at s.ends))
 
 -- its document is broken
-pub returns-in-Err-part_has_identifier : goal.returns-in-Err-part_has_identifier
-returns-in-Err-part_has_identifier g c =
+pub returns-in-Err-same_identifier : goal.returns-in-Err-same_identifier
+returns-in-Err-same_identifier g c =
     let h = c.in-Ok.ensures in
-    let s = c.in-Err-part_has_identifier.ensures in
+    let s = c.in-Err-same_identifier.ensures in
     look_refutes c.args.volume.now.geometry c.args.id.now c.args.digest.now c.args.bucket.now _ c.requires.digest
-    c.if-not-has_fingerprint.ensures _ (viewed_then h.viewed s.viewed) c.in-Err-part_has_identifier.fault
-    c.refuted-in-Err-part_has_identifier.result
+    c.if-not-has_fingerprint.ensures _ (viewed_then h.viewed s.viewed) c.in-Err-same_identifier.fault
+    c.refuted-in-Err-same_identifier.result
     (same_then c.args.volume.now.geometry c.args.bucket.now.slot _ _ _ c.in-Some.part h.viewed s.viewed
-    (rw c.in-Some.is at h.ends) c.args.id.now (Err c.in-Err-part_has_identifier.fault) s.ends) c.refuted-in-Err-part_has_identifier.ensures
+    (rw c.in-Some.is at h.ends) c.args.id.now (Err c.in-Err-same_identifier.fault) s.ends) c.refuted-in-Err-same_identifier.ensures

@@ -1,9 +1,10 @@
--- Cell 0 states a volume.
-use Rattle.kept_documents.proofs.Opening.{of_volume}
+-- The document itself was asked for.
+use Rattle.kept_documents.proofs.Opening.{ask_fails, keeps_body}
 use Rattle.kept_documents.proofs.kept.is_kept.Goals as goal
 
-pub returns-in-Ok : goal.returns-in-Ok
-returns-in-Ok g c =
-    let h = c.in-Ok.ensures in
-    of_volume c.in-Ok.volume.geometry c.args.slot c.args.id.now _ _ _ h.viewed h.ends.4 c.kept_in.result
-    c.kept_in.ensures
+pub returns-in-Ok-Some : goal.returns-in-Ok-Some
+returns-in-Ok-Some g c =
+    keeps_body c.args.slot c.args.id.now _ _ c.in-Ok-Some.document (rw c.in-Ok-Some.field-0-is at c.in-Ok-Some.ensures)
+
+pub returns-in-Err : goal.returns-in-Err
+returns-in-Err g c = ask_fails c.args.slot c.args.id.now _ _ c.in-Err.why c.in-Err.ensures

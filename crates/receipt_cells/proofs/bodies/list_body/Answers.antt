@@ -1,26 +1,14 @@
--- The body was read, and then its postings were listed.
-use Rattle.std.proofs.Common.{◌≡◌, List, ℕ, ap, sym, subst, ◌∙◌}
-use Rattle.host_ports.specs.Memories.{SinkMemory}
-use Rattle.document_store.specs.Looks.{HoldsBody}
-use Rattle.kept_documents.proofs.Opening.{read_back}
-use Rattle.receipt_cells.proofs.Bodying.{broken, with_body}
+-- The slot's stamp, and then the trails.
+use Rattle.receipt_cells.proofs.Bodying.{no_stamp, with_stamp}
 use Rattle.receipt_cells.proofs.bodies.list_body.Goals as goal
 
--- the document is broken
-pub returns-in-Err-Tampered : goal.returns-in-Err-Tampered
-returns-in-Err-Tampered g c =
-    let h = rw c.in-Err-Tampered.field-0-is at c.in-Err-Tampered.ensures in
-    broken c.args.volume.now.geometry c.args.slot _ _ _ h.viewed c.in-Err-Tampered._evidence h.ends.0
+-- the slot has no stamp
+pub returns-in_default-found : goal.returns-in_default-found
+returns-in_default-found g c =
+    no_stamp c.args.volume.now.geometry c.args.slot c.args.body.now _ _ _ (rw c.in_default-found.is at c.in-Ok.ensures)
 
--- its body was read
+-- the trails of its postings were listed
 pub returns : goal.returns
 returns g c =
-    let h = c.in-Ok-body_into.ensures in
-    let got = h.ends.2 in
-    let none = ap (λ (m : SinkMemory). m.held) c.reserve.ensures.only ∙ ap (λ (m : SinkMemory). m.held)
-    c.new-body.ensures in
-    let same : c.bytes.result.now ≡ got.body = read_back c.reserve.new.self.held got.body c.bytes.result.now
-    c.body_into.new.sink.held got.gets none c.bytes.ensures in
-    with_body c.args.volume.now.geometry c.args.slot _ _ _ h.viewed c.bytes.result.now _ _ c.list_stamped.result
-    (λ tells. subst (λ (b : List ℕ). HoldsBody c.args.volume.now.geometry (g.V.View.seen c.body_into.new.view).image
-    c.args.slot b) (sym same) (got.holds tells)) c.list_stamped.ensures
+    with_stamp c.args.volume.now.geometry c.args.slot c.args.body.now _ _ _ c.in-Some.stamp _ _ c.list_postings.result
+    (rw c.in-Some.is at c.in-Ok.ensures) c.list_postings.ensures

@@ -1,6 +1,6 @@
--- The slot's state, its log, and its document.
-use Rattle.std.proofs.Common.{arith}
-use Rattle.receipt_cells.proofs.SlotListing.{log_fits, look_unlisted, slot_listed, undone_unlisted}
+-- The slot's state, and then its part.
+use Rattle.document_store.proofs.Checking.{found_part}
+use Rattle.receipt_cells.proofs.SlotListing.{look_unlisted, slot_from, undone_unlisted}
 use Rattle.receipt_cells.proofs.slots.list_slot.Goals as goal
 
 -- the slot's cells are no state
@@ -16,23 +16,16 @@ returns-in_default g c =
     let h = rw c.in_default.is at c.in-Ok.ensures in
     undone_unlisted c.args.volume.now.geometry c.args.slot _ _ _ _ h.viewed h.ends
 
--- the log lies before the pool
-pub overflow_add-log : goal.overflow_add-log
-overflow_add-log g c =
-    let inside = log_fits c.args.volume.now.geometry c.args.slot c.log_cells.result c.log_cells.ensures.exists
-    c.log_cells.ensures.count c.requires.slot in
-    omega (arith, c.reserve_at-log.ensures.at, inside.0, inside.1)
+-- the part that was found
+pub list_part-requires-clause-part : goal.list_part-requires-clause-part
+list_part-requires-clause-part g c =
+    let h = c.in-Ok.ensures in
+    found_part c.args.volume.now.geometry c.args.slot _ _ c.in-Some.part h.viewed (rw c.in-Some.is at h.ends)
+    c.requires.slot
 
-pub list_cells-requires-clause-inside : goal.list_cells-requires-clause-inside
-list_cells-requires-clause-inside g c =
-    let inside = log_fits c.args.volume.now.geometry c.args.slot c.log_cells.result c.log_cells.ensures.exists
-    c.log_cells.ensures.count c.requires.slot in
-    omega (arith, c.reserve_at-log.ensures.at, inside.0, c.requires.size, c.in-Ok.ensures.viewed.cells)
-
--- log and document were listed
 pub returns : goal.returns
 returns g c =
     let h = c.in-Ok.ensures in
-    slot_listed c.args.volume.now.geometry c.args.slot c.reserve_at-log.result c.log_cells.result c.document_cells.result
-    _ _ _ _ _ _ _ c.in-Some.part c.list_cells-2.result c.reserve_at-log.ensures.at c.log_cells.ensures.count
-    c.document_cells.ensures h.viewed (rw c.in-Some.is at h.ends) c.in_default-list_cells.ensures c.list_cells-2.ensures
+    let found = rw c.in-Some.is at h.ends in
+    slot_from c.args.volume.now.geometry c.args.slot c.in-Some.part.slot _ _ _ _ _ c.list_part.result h.viewed found.0
+    c.list_part.ensures

@@ -1,14 +1,12 @@
 -- Settling, the walk, and the body.
 use Rattle.std.proofs.Common.{Err, Ok, subst, sym}
-use Rattle.std.specs.Prelude.{IsTrue}
 use Rattle.cell_types.proofs.Passed.{handed}
 use Rattle.cell_types.specs.Refusals.{refusal_of_fault}
 use Rattle.cell_types.specs.declared.refusal.Refusal.{Refusal}
-use Rattle.worm_device.proofs.Elapsing.{called_then}
 use Rattle.identifier_lookup.specs.declared.answers.Walk.{Walk}
 use Rattle.record_query.specs.LookingUp.{LooksUp}
 use Rattle.record_query.specs.Reaching.{WalksOnDevice}
-use Rattle.record_query.proofs.LookedUp.{found_is_done, look_up_ended, look_up_full, look_up_unput, look_up_unsettled, look_up_unwalked, looked_up}
+use Rattle.record_query.proofs.LookedUp.{found_whole, look_up_ended, look_up_full, look_up_unput, look_up_unsettled, look_up_unwalked, looked_up}
 use Rattle.record_query.proofs.looking_up.lookup_into.Goals as goal
 
 -- settling was ended
@@ -50,17 +48,24 @@ returns-in-PathFull g c =
     (subst (λ (w : Walk). WalksOnDevice c.in_ok-ready.ready c.args.id.now settled mid (Ok w)) c.in-PathFull.is
     c.in_ok-walked.ensures)
 
--- the slot that was found is done
-pub put_body-requires-clause-done : goal.put_body-requires-clause-done
-put_body-requires-clause-done g c = λ tells.
+-- the part that was found is one, and its document was read whole
+pub put_body-requires-clause-part : goal.put_body-requires-clause-part
+put_body-requires-clause-part g c =
+    let settled = g.D.Device.state c.settle.new.device in
+    let mid = g.D.Device.state c.walk_device.new.device in
+    let found = subst (λ (w : Walk). WalksOnDevice c.in_ok-ready.ready c.args.id.now settled mid (Ok w)) c.in-Found.is
+    c.in_ok-walked.ensures in
+    found.ends.3
+
+pub put_body-requires-clause-whole : goal.put_body-requires-clause-whole
+put_body-requires-clause-whole g c =
     let old = g.D.Device.state c.args.device.now in
     let settled = g.D.Device.state c.settle.new.device in
     let mid = g.D.Device.state c.walk_device.new.device in
-    found_is_done c.args.id.now c.in_ok-ready.ready old settled mid
-    c.in_ok-ready.ensures c.in_ok-walked.ensures.viewed c.in-Found.slot
+    found_whole c.args.id.now c.in_ok-ready.ready old settled mid
+    c.in_ok-ready.ensures c.in_ok-walked.ensures.viewed c.in-Found.part
     (subst (λ (w : Walk). WalksOnDevice c.in_ok-ready.ready c.args.id.now settled mid (Ok w)) c.in-Found.is
     c.in_ok-walked.ensures)
-    (subst IsTrue (called_then c.in_ok-ready.ensures.called c.in_ok-walked.ensures.viewed.called).tells tells)
 
 -- its body was put
 pub returns-in-Ok : goal.returns-in-Ok
@@ -69,7 +74,7 @@ returns-in-Ok g c =
     let settled = g.D.Device.state c.settle.new.device in
     let mid = g.D.Device.state c.walk_device.new.device in
     looked_up c.args.id.now c.in_ok-ready.ready old settled mid
-    c.in_ok-ready.ensures c.in_ok-walked.ensures.viewed c.in-Found.slot
+    c.in_ok-ready.ensures c.in_ok-walked.ensures.viewed c.in-Found.part
     (subst (λ (w : Walk). WalksOnDevice c.in_ok-ready.ready c.args.id.now settled mid (Ok w)) c.in-Found.is
     c.in_ok-walked.ensures)
     (g.D.Device.state c.put_body.new.device) (g.K.Sink.state c.args.sink.now) (g.K.Sink.state c.put_body.new.sink)
@@ -84,7 +89,7 @@ returns-in-Err g c =
     subst (λ (r : Refusal). LooksUp c.args.id.now old (g.D.Device.state c.put_body.new.device)
     (g.K.Sink.state c.args.sink.now) (g.K.Sink.state c.put_body.new.sink) (Err r)) (sym c.refusal_of_body.ensures)
     (look_up_unput c.args.id.now c.in_ok-ready.ready old settled mid
-    c.in_ok-ready.ensures c.in_ok-walked.ensures.viewed c.in-Found.slot
+    c.in_ok-ready.ensures c.in_ok-walked.ensures.viewed c.in-Found.part
     (subst (λ (w : Walk). WalksOnDevice c.in_ok-ready.ready c.args.id.now settled mid (Ok w)) c.in-Found.is
     c.in_ok-walked.ensures)
     (g.D.Device.state c.put_body.new.device) (g.K.Sink.state c.args.sink.now) (g.K.Sink.state c.put_body.new.sink)

@@ -5,6 +5,15 @@ use Rattle.cell_types.specs.declared.refusal.Refusal.TheVariants.{NoMemory}
 use Rattle.time_index.proofs.Matched.{was_read, was_wanted}
 use Rattle.time_index.proofs.matching.read_match.Goals as goal
 
+-- the part is one that was found
+pub read_part-requires-clause-part : goal.read_part-requires-clause-part
+read_part-requires-clause-part g c = record {
+  slot = c.requires.slot;
+  inside = c.requires.inside;
+  stated = c.requires.stated;
+  is = c.requires.part;
+}
+
 pub returns : goal.returns
 returns g c =
     was_read c.args.geometry.now c.args.part.now c.args.seconds c.read_part.ensures.viewed c.read_part.ensures.reads

@@ -2,6 +2,7 @@
 use Rattle.std.proofs.Common.{refl}
 use Rattle.cell_types.proofs.Passed.{handed}
 use Rattle.cell_types.specs.Refusals.{refusal_of_fault}
+use Rattle.cell_types.specs.declared.refusal.Refusal.TheVariants as refusals
 use Rattle.posting_list.proofs.Landing.{keeps_on}
 use Rattle.time_index.proofs.SoFar.{match_fails, none_left, not_kept, one_more, search_fails}
 use Rattle.time_index.proofs.span.gather.Goals as goal
@@ -32,9 +33,10 @@ returns-in_err-found g c =
 -- there was no memory for it
 pub returns-in_err-push : goal.returns-in_err-push
 returns-in_err-push g c =
-    not_kept c.args.reach.now c.args.from c.args.to c.in-Some.key c.loop-next.matches.items c.loop-next.last
+    rw (handed c.from_residual-in_err-push.result refusals.NoMemory c.from_residual-in_err-push.ensures.1)
+    (not_kept c.args.reach.now c.args.from c.args.to c.in-Some.key c.loop-next.matches.items c.loop-next.last
     (rw c.in-Some.is at c.loop-next.invariant.so_far) c.in-Some-2.entry
-    (rw c.in-Some-2.is at c.in_ok-entry.ensures.next) c.in_ok-found.found c.in_ok-found.ensures
+    (rw c.in-Some-2.is at c.in_ok-entry.ensures.next) c.in_ok-found.found c.in_ok-found.ensures)
 
 -- one more
 pub loop-next-preserved : goal.loop-next-preserved

@@ -20,19 +20,19 @@ returns-in_err-ready-clause-ends g c =
     rw (handed c.from_residual-in_err-ready.result refusal c.from_residual-in_err-ready.ensures.1)
     (by_settling _ c.in_ok-_report._report c.in_ok-_report.ensures c.in_err-ready.ensures)
 
-pub returns-in_err-done-clause-ends : goal.returns-in_err-done-clause-ends
-returns-in_err-done-clause-ends g c =
-    let refusal = c.in_err-done.field-0.0 in
-    rw (handed c.from_residual-in_err-done.result refusal c.from_residual-in_err-done.ensures.1)
-    (walk_refuses c.in_ok-ready.ready c.in_ok-_report.ensures c.in_ok-ready.ensures c.done_slots.ensures.read
-    (g.met.D.Device.proper c.settle.new.device) (g.met.D.Device.proper c.done_slots.new.device) refusal
-    c.in_err-done.ensures.ends)
+pub returns-in_err-parts-clause-ends : goal.returns-in_err-parts-clause-ends
+returns-in_err-parts-clause-ends g c =
+    let refusal = c.in_err-parts.field-0.0 in
+    rw (handed c.from_residual-in_err-parts.result refusal c.from_residual-in_err-parts.ensures.1)
+    (walk_refuses c.in_ok-ready.ready c.in_ok-_report.ensures c.in_ok-ready.ensures c.done_parts.ensures.read
+    (g.met.D.Device.proper c.settle.new.device) (g.met.D.Device.proper c.done_parts.new.device) refusal
+    c.in_err-parts.ensures.ends)
 
 pub returns-clause-ends : goal.returns-clause-ends
 returns-clause-ends g c =
-    has_audited c.in_ok-ready.ready c.in_ok-_report.ensures c.in_ok-ready.ensures c.done_slots.ensures.read
-    (g.met.D.Device.proper c.settle.new.device) (g.met.D.Device.proper c.done_slots.new.device) c.in_ok-done.done
-    c.in_ok-done.ensures.ends
+    has_audited c.in_ok-ready.ready c.in_ok-_report.ensures c.in_ok-ready.ensures c.done_parts.ensures.read
+    (g.met.D.Device.proper c.settle.new.device) (g.met.D.Device.proper c.done_parts.new.device) c.in_ok-parts.parts
+    c.in_ok-parts.ensures.ends
 
 -- where nothing hinders
 pub returns-in_err-_report-clause-steady : goal.returns-in_err-_report-clause-steady
@@ -50,17 +50,17 @@ returns-in_err-ready-clause-steady g c =
     (g.met.D.Device.proper c.settle.new.device) c.in_ok-_report.ensures c.settle.ensures.called refusal
     c.in_err-ready.ensures)
 
-pub returns-in_err-done-clause-steady : goal.returns-in_err-done-clause-steady
-returns-in_err-done-clause-steady g c =
-    let refusal = c.in_err-done.field-0.0 in
-    rw (handed c.from_residual-in_err-done.result refusal c.from_residual-in_err-done.ensures.1)
-    (read_steady (called_then c.audit_metered.ensures.called c.settle.ensures.called) c.done_slots.ensures.read.called
-    (settled_new c.in_ok-ready.ready c.in_ok-_report.ensures c.in_ok-ready.ensures c.done_slots.ensures.read
-    (g.met.D.Device.proper c.settle.new.device) (g.met.D.Device.proper c.done_slots.new.device))
+pub returns-in_err-parts-clause-steady : goal.returns-in_err-parts-clause-steady
+returns-in_err-parts-clause-steady g c =
+    let refusal = c.in_err-parts.field-0.0 in
+    rw (handed c.from_residual-in_err-parts.result refusal c.from_residual-in_err-parts.ensures.1)
+    (read_steady (called_then c.audit_metered.ensures.called c.settle.ensures.called) c.done_parts.ensures.read.called
+    (settled_new c.in_ok-ready.ready c.in_ok-_report.ensures c.in_ok-ready.ensures c.done_parts.ensures.read
+    (g.met.D.Device.proper c.settle.new.device) (g.met.D.Device.proper c.done_parts.new.device))
     refusal
-    (λ tells. c.in_err-done.ensures.ends (λ also. volume_b c.in_ok-ready.ready c.in_ok-_report.ensures
-    c.in_ok-ready.ensures c.done_slots.ensures.read (g.met.D.Device.proper c.settle.new.device)
-    (g.met.D.Device.proper c.done_slots.new.device)
+    (λ tells. c.in_err-parts.ensures.ends (λ also. volume_b c.in_ok-ready.ready c.in_ok-_report.ensures
+    c.in_ok-ready.ensures c.done_parts.ensures.read (g.met.D.Device.proper c.settle.new.device)
+    (g.met.D.Device.proper c.done_parts.new.device)
     (subst IsTrue (called_then c.audit_metered.ensures.called c.settle.ensures.called).tells also))))
 
 pub returns-clause-steady : goal.returns-clause-steady
@@ -81,28 +81,28 @@ returns-in_err-ready-clause-held g c =
     (settle_held c.settle.result (g.met.D.Device.proper c.audit_metered.new.device) (g.met.D.Device.proper c.settle.new.device)
     c.settle.ensures)
 
-pub returns-in_err-done-clause-held : goal.returns-in_err-done-clause-held
-returns-in_err-done-clause-held g c =
+pub returns-in_err-parts-clause-held : goal.returns-in_err-parts-clause-held
+returns-in_err-parts-clause-held g c =
     held_then (g.met.D.Device.proper c.args.device.now) (g.met.D.Device.proper c.settle.new.device)
-    (called_then c.audit_metered.ensures.called c.settle.ensures.called) c.done_slots.ensures.read.called
+    (called_then c.audit_metered.ensures.called c.settle.ensures.called) c.done_parts.ensures.read.called
     (held_then (g.met.D.Device.proper c.args.device.now) (g.met.D.Device.proper c.audit_metered.new.device) c.audit_metered.ensures.called
     c.settle.ensures.called
     (audit_held c.audit_metered.result (g.met.D.Device.proper c.args.device.now) (g.met.D.Device.proper c.audit_metered.new.device)
     c.audit_metered.ensures)
     (settle_held c.settle.result (g.met.D.Device.proper c.audit_metered.new.device) (g.met.D.Device.proper c.settle.new.device)
     c.settle.ensures))
-    (read_held (g.met.D.Device.proper c.settle.new.device) (g.met.D.Device.proper c.done_slots.new.device)
-    c.done_slots.ensures.read)
+    (read_held (g.met.D.Device.proper c.settle.new.device) (g.met.D.Device.proper c.done_parts.new.device)
+    c.done_parts.ensures.read)
 
 pub returns-clause-held : goal.returns-clause-held
 returns-clause-held g c =
     held_then (g.met.D.Device.proper c.args.device.now) (g.met.D.Device.proper c.settle.new.device)
-    (called_then c.audit_metered.ensures.called c.settle.ensures.called) c.done_slots.ensures.read.called
+    (called_then c.audit_metered.ensures.called c.settle.ensures.called) c.done_parts.ensures.read.called
     (held_then (g.met.D.Device.proper c.args.device.now) (g.met.D.Device.proper c.audit_metered.new.device) c.audit_metered.ensures.called
     c.settle.ensures.called
     (audit_held c.audit_metered.result (g.met.D.Device.proper c.args.device.now) (g.met.D.Device.proper c.audit_metered.new.device)
     c.audit_metered.ensures)
     (settle_held c.settle.result (g.met.D.Device.proper c.audit_metered.new.device) (g.met.D.Device.proper c.settle.new.device)
     c.settle.ensures))
-    (read_held (g.met.D.Device.proper c.settle.new.device) (g.met.D.Device.proper c.done_slots.new.device)
-    c.done_slots.ensures.read)
+    (read_held (g.met.D.Device.proper c.settle.new.device) (g.met.D.Device.proper c.done_parts.new.device)
+    c.done_parts.ensures.read)

@@ -10,7 +10,7 @@ use Rattle.volume_copy.proofs.walking.done_in.Goals as goal
 pub returns-in_err-found-clause-ends : goal.returns-in_err-found-clause-ends
 returns-in_err-found-clause-ends g c =
     let fault = c.in_err-found.field-0.0 in
-    rw (handed c.from_residual.result (refusal_of_fault fault) c.from_residual.ensures.1)
+    rw (handed c.from_residual-in_err-found.result (refusal_of_fault fault) c.from_residual-in_err-found.ensures.1)
     (walk_fails c.loop-slot.invariant c.slot_part.ensures.viewed c.args.horizon (refusal_of_fault fault)
     (look_fails c.args.volume.now.geometry c.loop-slot.slot _ _ fault c.in_err-found.ensures.ends))
 
@@ -22,11 +22,12 @@ loop-slot-preserved-in_default g c =
 -- it is
 pub loop-slot-preserved : goal.loop-slot-preserved
 loop-slot-preserved g c =
-    let one = walk_one c.loop-slot.invariant c.slot_part.ensures.viewed (rw c.in-Some.is at c.in_ok-found.ensures.ends) in
+    let one = walk_one c.loop-slot.invariant c.slot_part.ensures.viewed c.in-Some.part
+    (omega (arith, c.loop-slot-test.true, c.requires.most)) (rw c.in-Some.is at c.in_ok-found.ensures.ends) in
     search (rules, one, c.in_ok-push.ensures)
 
 -- all were asked
 pub returns-clause-ends : goal.returns-clause-ends
 returns-clause-ends g c =
     let at_end : c.loop-slot.slot ≡ c.args.horizon = omega (arith, c.loop-slot-test.false, c.loop-slot.auto.slot-end) in
-    walk_ends c.loop-slot.done c.loop-slot.invariant at_end
+    walk_ends c.loop-slot.parts c.loop-slot.invariant at_end

@@ -2,7 +2,7 @@
 use Rattle.std.proofs.Common.{rules}
 use Rattle.volume_copy.proofs.Slots.{only_read}
 use Rattle.volume_copy.proofs.Walked.{walked}
-use Rattle.volume_copy.proofs.walking.done_slots.Goals as goal
+use Rattle.volume_copy.proofs.walking.done_parts.Goals as goal
 
 pub returns-clause-read : goal.returns-clause-read
 returns-clause-read g c =

@@ -1,0 +1,86 @@
+-- The document was taken, and the index asked.
+use Rattle.std.proofs.Common.{◌≡◌, ℕ, List, ap, refl, sym, subst, ◌∙◌, rules, arith}
+use Rattle.std.specs.Prelude.{length}
+use Rattle.host_ports.specs.Memories.{GatheredBytes}
+use Rattle.document_store.specs.Heads.{id_of}
+use Rattle.document_store.specs.Standing.{HoldsDocument}
+use Rattle.document_store.proofs.Checking.{has_part_on}
+use Rattle.kept_documents.proofs.Holding.{index_fails, indexed_no, indexed_yes, look_fails, other_one}
+use Rattle.kept_documents.proofs.Opening.{read_back}
+use Rattle.cell_types.specs.declared.refusal.Fault.TheVariants as faults
+use Rattle.kept_documents.proofs.kept.kept_part.Goals as goal
+
+-- its document is broken
+pub returns-in-Err-Tampered : goal.returns-in-Err-Tampered
+returns-in-Err-Tampered g c =
+    let h = rw c.in-Err-Tampered.field-0-is at c.in-Err-Tampered.ensures in
+    look_fails c.args.volume c.args.part.slot c.args.id.now _ _ h.viewed
+    (faults.Tampered c.in-Err-Tampered.evidence) c.refused.result h.ends.0 c.refused.ensures
+
+-- it has another identifier
+pub returns-then-ne : goal.returns-then-ne
+returns-then-ne g c =
+    let h = c.in-Ok-take_part.ensures in
+    let other : id_of c.in-Ok-take_part.head ≡ c.args.id.now → ⊥ = search (rules, c.ne.ensures, c.if-ne.true) in
+    other_one c.args.volume c.args.part.slot c.args.id.now _ _ h.viewed (id_of c.in-Ok-take_part.head)
+    h.ends.2.got.has.body h.ends.2.holds other
+
+-- a call of the sink failed: then memory lacked
+pub unreachable-requires : goal.unreachable-requires
+unreachable-requires g c =
+    let h = rw c.in-Err-SinkFault.field-0-is at c.in-Err-SinkFault.ensures in
+    omega (arith, h.ends.1, ap (λ (m : GatheredBytes). m.faults) c.in_ok-body.ensures, c.in_default.ensures)
+
+-- the index could not be asked
+pub returns-in-Err : goal.returns-in-Err
+returns-in-Err g c =
+    let layout = c.args.volume.geometry in
+    let mid = g.V.View.seen c.take_part.new.view in
+    let h = c.in-Ok-take_part.ensures in
+    let has = h.ends.2.got.has in
+    let none = ap (λ (m : GatheredBytes). m.held) c.in_ok-body.ensures in
+    let same : c.bytes.result.now ≡ has.body = read_back c.in_ok-body.body.held has.body c.bytes.result.now
+    c.take_part.new.sink.held h.ends.2.got.gets none c.bytes.ensures in
+    let own : id_of c.in-Ok-take_part.head ≡ c.args.id.now = search (rules, c.ne.ensures, c.if-ne.false) in
+    index_fails c.args.volume c.args.part.slot c.args.id.now _ _ h.viewed (id_of c.in-Ok-take_part.head)
+    c.bytes.result.now
+    (λ tells. subst (λ (b : List ℕ). HoldsDocument layout mid.image c.args.part.slot (id_of c.in-Ok-take_part.head) b)
+    (sym same) (h.ends.2.holds tells))
+    own _ c.in-Err.why c.in-Err.ensures
+
+-- the index does not lead to it
+pub returns-then-not-led : goal.returns-then-not-led
+returns-then-not-led g c =
+    let layout = c.args.volume.geometry in
+    let mid = g.V.View.seen c.take_part.new.view in
+    let h = c.in-Ok-take_part.ensures in
+    let has = h.ends.2.got.has in
+    let none = ap (λ (m : GatheredBytes). m.held) c.in_ok-body.ensures in
+    let same : c.bytes.result.now ≡ has.body = read_back c.in_ok-body.body.held has.body c.bytes.result.now
+    c.take_part.new.sink.held h.ends.2.got.gets none c.bytes.ensures in
+    let own : id_of c.in-Ok-take_part.head ≡ c.args.id.now = search (rules, c.ne.ensures, c.if-ne.false) in
+    indexed_no c.args.volume c.args.part.slot c.args.id.now _ _ h.viewed (id_of c.in-Ok-take_part.head)
+    c.bytes.result.now
+    (λ tells. subst (λ (b : List ℕ). HoldsDocument layout mid.image c.args.part.slot (id_of c.in-Ok-take_part.head) b)
+    (sym same) (h.ends.2.holds tells))
+    own _ (rw c.if-not-led.true at c.in-Ok-is_indexed.ensures)
+
+-- it does
+pub returns : goal.returns
+returns g c =
+    let layout = c.args.volume.geometry in
+    let mid = g.V.View.seen c.take_part.new.view in
+    let h = c.in-Ok-take_part.ensures in
+    let has = h.ends.2.got.has in
+    let none = ap (λ (m : GatheredBytes). m.held) c.in_ok-body.ensures in
+    let same : c.bytes.result.now ≡ has.body = read_back c.in_ok-body.body.held has.body c.bytes.result.now
+    c.take_part.new.sink.held h.ends.2.got.gets none c.bytes.ensures in
+    let own : id_of c.in-Ok-take_part.head ≡ c.args.id.now = search (rules, c.ne.ensures, c.if-ne.false) in
+    indexed_yes c.args.volume c.args.part.slot c.args.id.now _ _ h.viewed (id_of c.in-Ok-take_part.head)
+    c.bytes.result.now
+    (λ tells. subst (λ (b : List ℕ). HoldsDocument layout mid.image c.args.part.slot (id_of c.in-Ok-take_part.head) b)
+    (sym same) (h.ends.2.holds tells))
+    own _ _ refl refl
+    (has_part_on layout (g.V.View.seen c.args.view.now) mid c.args.part h.viewed c.requires.part)
+    (sym c.bytes.ensures) (sym has.is_length ∙ ap length (sym same))
+    (rw c.if-not-led.false at c.in-Ok-is_indexed.ensures)
