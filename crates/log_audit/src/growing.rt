@@ -36,7 +36,7 @@ impl KeptCells {
         };
         // Known of a cell once its bytes are asked for: there are sixteen, and not all of them are zero.
         let _bytes = cell.bytes();
-        memory::push(&mut self.rows, alloc, WrittenCell { number, cell })?;
+        self.rows.push(alloc, WrittenCell { number, cell })?;
         self.count = number + 1;
         Ok(())
     }
