@@ -102,6 +102,7 @@ fn state_of_row(geometry: &Geometry, slot: u32, row: &[Option<Cell>]) -> Result<
 }
 
 /// What stands in the spare cell of a slot, if documents are stamped.
+#[cold]
 fn spare_of_row(geometry: &Geometry, slot: u32, row: &[Option<Cell>]) -> Option<Found>
     requires slot { slot < geometry.now.slots }
     requires four { geometry.now.version ≡ STAMPED_VERSION → 4 ≤ length row.now }
@@ -115,6 +116,7 @@ fn spare_of_row(geometry: &Geometry, slot: u32, row: &[Option<Cell>]) -> Option<
 }
 
 /// The state that a row makes of a slot's reserve, outcome and done cell, or the first of them that is out of place.
+#[cold]
 fn found_in_row(
     geometry: &Geometry,
     slot: u32,
