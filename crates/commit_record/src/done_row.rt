@@ -1,4 +1,5 @@
-//! A slot that is done, by a row of its cells: each is asked for by the kind that it has to be, and none is decoded whole.
+//! A slot that is done, by a row of its cells: each is asked for by the kind that it has to have, and none is decoded
+//! whole.
 ghost use Rattle.std.specs.Prelude.{◌≡◌, ◌<◌, ◌≤◌, IfSome, IsTrue, Ok, length};
 ghost use Rattle.cell_types.specs.declared.geometry.TheConstants.{STAMPED_VERSION};
 ghost use Rattle.cell_types.specs.declared.record_cell.RecordCell.TheVariants as records;
@@ -45,6 +46,7 @@ pub(crate) fn done_of_row(geometry: &Geometry, slot: u32, row: &[Option<Cell>]) 
 }
 
 /// Whether the slot's spare cell holds a stamp, if documents are stamped.
+#[inline]
 fn is_stamped(geometry: &Geometry, slot: u32, row: &[Option<Cell>]) -> bool
     requires slot { slot < geometry.now.slots }
     requires four { geometry.now.version ≡ STAMPED_VERSION → 4 ≤ length row.now }

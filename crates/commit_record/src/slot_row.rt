@@ -77,13 +77,23 @@ pub fn stamp_of_row(geometry: &Geometry, slot: u32, row: &[Option<Cell>]) -> Opt
     requires four { 4 ≤ length row.now }
     ensures { StampOfRow slot row.now result }
 {
-    let at = geometry.spare_at(slot);
     let spare = row[3];
+    let at = geometry.spare_at(slot);
     if let Some(seconds) = held_stamp(spare, at) {
         return Some(seconds);
     }
-    let other = row[3];
-    stamp_found(found_in(other, at))
+    stamp_found_in_row(geometry, slot, row)
+}
+
+/// The same, of a cell that holds anything.
+#[cold]
+fn stamp_found_in_row(geometry: &Geometry, slot: u32, row: &[Option<Cell>]) -> Option<u32>
+    requires slot { slot < geometry.now.slots }
+    requires four { 4 ≤ length row.now }
+    ensures { StampOfRow slot row.now result }
+{
+    let spare = row[3];
+    stamp_found(found_in(spare, geometry.spare_at(slot)))
 }
 
 /// The state that a row makes of a slot, whose cells are its first, or the first of them that is out of place. Most slots
@@ -102,6 +112,7 @@ fn state_of_row(geometry: &Geometry, slot: u32, row: &[Option<Cell>]) -> Result<
 }
 
 /// What stands in the spare cell of a slot, if documents are stamped.
+#[cold]
 fn spare_of_row(geometry: &Geometry, slot: u32, row: &[Option<Cell>]) -> Option<Found>
     requires slot { slot < geometry.now.slots }
     requires four { geometry.now.version ≡ STAMPED_VERSION → 4 ≤ length row.now }
@@ -115,6 +126,7 @@ fn spare_of_row(geometry: &Geometry, slot: u32, row: &[Option<Cell>]) -> Option<
 }
 
 /// The state that a row makes of a slot's reserve, outcome and done cell, or the first of them that is out of place.
+#[cold]
 fn found_in_row(
     geometry: &Geometry,
     slot: u32,

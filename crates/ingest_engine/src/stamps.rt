@@ -16,7 +16,7 @@ use worm_device::{Device, Direct, View};
 const ROW_SLOTS: u32 = 64;
 
 /// How many cells they have.
-const ROW_CELLS: u32 = 4 * ROW_SLOTS;
+const ROW_CELLS: usize = 4 * ROW_SLOTS as usize;
 
 /// That the stamp, if one is given, is past that of each done slot below the horizon. The slots are read from the greatest
 /// down, where a stamp is given alone.
@@ -58,20 +58,25 @@ fn greatest_stamp<V: View>(view: &mut V, volume: &Volume, below: u32) -> Result<
 {
     let mut greatest = None;
     let mut left = below;
+    // All rows are read into one place, which is made blank once alone.
+    let mut cells = [None; ROW_CELLS];
     while left > 0 {
         let count = left.min(ROW_SLOTS);
-        greatest = with_slots(view, &volume.geometry, left - count, count, greatest)?;
+        let first = left - count;
+        greatest = with_slots(view, &volume.geometry, first, count, &mut cells, greatest)?;
         left -= count;
     }
     Ok(greatest)
 }
 
-/// The latest of a stamp and those of the done slots among so many, from the first on. Their cells are read as one row.
+/// The latest of a stamp and those of the done slots among so many, from the first on. Their cells are read as one row,
+/// into the room that is there for it.
 fn with_slots<V: View>(
     view: &mut V,
     geometry: &Geometry,
     first: u32,
     count: u32,
+    room: &mut [Option<Cell>; ROW_CELLS],
     greatest: Option<u32>,
 ) -> Result<Option<u32>, Fault>
     requires some { 1 ≤ count }
@@ -84,8 +89,7 @@ fn with_slots<V: View>(
     // is one of the device, too.
     let _slots = geometry.slots();
     let _last = geometry.spare_at(first + count - 1);
-    let mut cells = [None; ROW_CELLS as usize];
-    let row = &mut cells[..4 * count as usize];
+    let row = &mut room[..4 * count as usize];
     view.read_row(geometry.reserve_at(first), row)?;
     latest_in_row(geometry, first, count, row, greatest)
 }
