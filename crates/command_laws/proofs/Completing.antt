@@ -74,7 +74,8 @@ module _ {id : List ℕ} {stamp : Option ℕ} {body : List ℕ} {g : Layout} {sl
   no_such_stamp : (refusal : Refusal) → TakesNoSuchStamp stamp old new refusal → ⊥
   no_such_stamp refusal h = by_end refusal h.ends (takes h.ready h.settled)
     where
-      by_end : (refusal : Refusal) → CheckStampEnds h.ready stamp (Err refusal) → IsStampFor h.ready.volume.geometry stamp → ⊥
+      by_end : (refusal : Refusal) → CheckStampEnds h.ready stamp (Err refusal)
+          → IsStampFor h.ready.volume.geometry stamp → ⊥
       by_end refusals.StampNeeded ends takes =
           omega (arith, ends.0, subst (λ (s : Option ℕ). IsStampFor h.ready.volume.geometry s) ends.1 takes)
       by_end refusals.StampUnused ends takes =

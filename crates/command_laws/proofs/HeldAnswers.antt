@@ -23,9 +23,11 @@ use Rattle.command_laws.specs.Begins.{BeginsSteady}
 use Rattle.command_laws.specs.Telling.{AreMatchesOf}
 use Rattle.command_laws.proofs.Results.{no_answer, one_refusal}
 
-module _ (old new : DeviceState) (device : IsDevice old) (device_new : IsDevice new) (begins : BeginsSteady old new) where
+module _ (old new : DeviceState) (device : IsDevice old) (device_new : IsDevice new)
+    (begins : BeginsSteady old new) where
   -- behind a query that was not refused by settling stand just the documents that stood
-  pub documents_now : (r : Ready) → HasSettled old new r → (documents : List Document) → Held old.cells old.image documents
+  pub documents_now : (r : Ready) → HasSettled old new r → (documents : List Document)
+      → Held old.cells old.image documents
       → AreDocuments new.cells new.image documents
   documents_now r has documents held =
       let sound = looked_sound old new r begins.tells has begins.alone device device_new begins.steady in

@@ -11,14 +11,16 @@ use Rattle.crash_laws.proofs.LookedAt.{looking_keeps, looking_steady}
 use Rattle.command_laws.specs.Begins.{BeginsSteady}
 use Rattle.command_laws.specs.Telling.{LeavesHeld}
 
-module _ (old new : DeviceState) (device : IsDevice old) (device_new : IsDevice new) (begins : BeginsSteady old new) where
+module _ (old new : DeviceState) (device : IsDevice old) (device_new : IsDevice new)
+    (begins : BeginsSteady old new) where
   -- settling, whatever it answers
   pub settling_leaves : (answer : Result Ready Refusal) → Settles old new answer → LeavesHeld old new
   settling_leaves answer settles = record {
     stays = stays_steady old new device begins.steady settles.called.cells
         (settling_left old new answer device begins.tells settles begins.alone begins.steady);
     keeps = λ documents held. subst (λ (k : ℕ). Held k new.image documents) (sym settles.called.cells)
-        (settling_keeps old new answer device device_new begins.tells settles begins.alone begins.steady documents held);
+        (settling_keeps old new answer device device_new begins.tells settles begins.alone begins.steady
+        documents held);
   }
 
   -- queries settle, and then look alone

@@ -36,7 +36,8 @@ no_other_cell {g} volume found stands none = none g
 pub no_other_size : {g : Layout} {cells : ℕ} {image : Image} → IsVolume cells image g → (h : Layout) (stated : ℕ)
     → Holds image 0 (volume_record h) → h.cells ≡ stated → stated ≡ cells
 no_other_size {g} {cells} volume h stated holds states =
-    let same : h ≡ g = one_layout {cells = h.cells} {more = cells} h g (record { volume = holds; size = refl }) volume in
+    let same : h ≡ g =
+    one_layout {cells = h.cells} {more = cells} h g (record { volume = holds; size = refl }) volume in
     sym states ∙ ap (λ (l : Layout). l.cells) same ∙ volume.size
 
 -- a whole log hinders nothing that looks at these rules
@@ -64,7 +65,8 @@ settles_whole whole called (refusals.NotAVolume found) alarm ends =
     let is = ends whole.tells in no_other_cell (volume_now whole called) found is.0 is.1
 settles_whole whole called (refusals.WrongSize stated real) alarm ends =
     let is = ends.2 whole.tells in ends.1 (no_other_size (volume_now whole called) is.0 stated is.1 is.2 ∙ sym ends.0)
-settles_whole whole called (refusals.Tampered e) alarm ends = none_found whole called e (alarm e refl) (ends whole.tells)
+settles_whole whole called (refusals.Tampered e) alarm ends =
+    none_found whole called e (alarm e refl) (ends whole.tells)
 settles_whole whole called refusal alarm ends = ends
 
 -- nothing hinders settling of a steady volume

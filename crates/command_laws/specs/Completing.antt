@@ -12,9 +12,9 @@ use Rattle.worm_device.specs.Counts.{IsStill}
 use Rattle.worm_device.specs.State.{DeviceState}
 use Rattle.identifier_lookup.specs.Walks.{IsPassedWhole}
 
--- What stands is a sound volume, and a stamp is given exactly where its documents are stamped. In what settling makes of
--- it the stamp is past those of the done slots, no document has the identifier, and its path is not full. No list gets
--- more than 256 tags of the body; a slot is unused, and behind the edge is room for the document's need.
+-- What stands is a sound volume, and a stamp is given exactly where its documents are stamped. In what settling makes
+-- of it the stamp is past those of the done slots, no document has the identifier, and its path is not full. No list
+-- gets more than 256 tags of the body; a slot is unused, and behind the edge is room for the document's need.
 pub record HasPlaceFor (id : List ℕ) (stamp : Option ℕ) (body : List ℕ) (g : Layout) (slot : ℕ) (old : DeviceState)
     : Type 0 where
   pub volume : IsVolume old.cells old.image g

@@ -14,8 +14,8 @@ pub data IsUntampered (IsLookedAt : ℕ → Type 0) (s : DeviceState) : Type 0 w
   unbroken : ((number cell : ℕ) → IsLookedAt number → IsBroken s.cells s.image number cell → ⊥)
       → IsUntampered IsLookedAt s
 
--- The device holds a volume of this layout, and whatever a crash leaves of it is blank or sound. Nobody else writes, and
--- no call of the device fails.
+-- The device holds a volume of this layout, and whatever a crash leaves of it is blank or sound. Nobody else writes,
+-- and no call of the device fails.
 pub record HasSteadyVolume (g : Layout) (old new : DeviceState) : Type 0 where
   pub tells : IsTrue old.tells
   pub volume : IsVolume old.cells old.image g

@@ -139,7 +139,8 @@ module _ (g : Layout) (n : ℕ) (p : Plan) (id body : List ℕ) (old new : Devic
     whole new.sure (record { above = extends_self new.sure; below = device.sure }),
   )
 
-module _ (id : List ℕ) (stamp : Option ℕ) (body : List ℕ) (old new : DeviceState) (n : ℕ) (device : IsDevice old) (device_new : IsDevice new)
+module _ (id : List ℕ) (stamp : Option ℕ) (body : List ℕ) (old new : DeviceState) (n : ℕ) (device : IsDevice old)
+    (device_new : IsDevice new)
     (tells : IsTrue old.tells) (still : IsStill old.foreign_writes new.foreign_writes) (steady : IsSteady old)
     (is : IsIngested id stamp body n old new) where
   -- the slot's reserve cell was blank, and is not
@@ -197,7 +198,8 @@ module _ (id : List ℕ) (stamp : Option ℕ) (body : List ℕ) (old new : Devic
 
     ends : (new.image ≡ made.0) × (new.sure ≡ made.0)
     ends = put_whole g r.horizon p id body looked new made.0 plans.document plans.suits made.1 tells_then
-        (sure id stamp body old looked new r p tells h device device_looked less plans puts still steady) still_then puts
+        (sure id stamp body old looked new r p tells h device device_looked less plans puts still steady)
+        still_then puts
         device_new (subst (λ (m : ℕ). Stands new.cells new.sure m id body) slot_is is.document)
 
     volume_new : IsVolume new.cells new.image g
@@ -217,7 +219,8 @@ module _ (id : List ℕ) (stamp : Option ℕ) (body : List ℕ) (old new : Devic
           subst (λ (k : ℕ). AreDocuments k new.sure (documents ++ document_in r.horizon id body ∷ [])) volume_new.size
           (subst (λ (i : Image). AreDocuments g.cells i (documents ++ document_in r.horizon id body ∷ [])) (sym ends.1)
           (adds_one made.1 documents
-          (documents_now id stamp body old looked new r p tells h device device_looked less plans puts still steady documents
+          (documents_now id stamp body old looked new r p tells h device device_looked less plans puts still
+          steady documents
           held)));
       stamped = λ k volume. subst (λ (m : ℕ). IsStampOf k new.sure m stamp) slot_is
           (subst (λ (x : Layout). IsStampOf x new.sure n stamp)

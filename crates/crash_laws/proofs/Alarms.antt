@@ -13,7 +13,8 @@ use Rattle.crash_laws.proofs.SettlingAlarms.{looked_unbroken, settling_named}
 module _ (old new : DeviceState) (e : Evidence) (device : IsDevice old) (device_new : IsDevice new)
     (tells : IsTrue old.tells) (still : IsStill old.foreign_writes new.foreign_writes) (steady : IsSteady old) where
   none_behind : {stamp : Option ℕ} (r : Ready) → HasFreeSlot stamp old new r → IsLicensed old new e → ⊥
-  none_behind r slot licensed = looked_unbroken old new r e.rule e.cell device device_new tells slot.settled still steady
+  none_behind r slot licensed =
+      looked_unbroken old new r e.rule e.cell device device_new tells slot.settled still steady
       (licensed.broken still)
 
   pub none_named : {id : List ℕ} {stamp : Option ℕ} {body : List ℕ} → IsIngestEvidence id stamp body old new e → ⊥

@@ -26,7 +26,8 @@ use Rattle.crash_laws.proofs.LeftWhole.{held_unmoved, settling_keeps}
 use Rattle.crash_laws.proofs.LookedAt.{looking_keeps}
 use Rattle.crash_laws.proofs.Alarms.{none_named}
 
-module _ (id : List ℕ) (stamp : Option ℕ) (body : List ℕ) (old new : DeviceState) (called : Called old new) (device : IsDevice old)
+module _ (id : List ℕ) (stamp : Option ℕ) (body : List ℕ) (old new : DeviceState) (called : Called old new)
+    (device : IsDevice old)
     (device_new : IsDevice new) (tells : IsTrue old.tells)
     (still : IsStill old.foreign_writes new.foreign_writes) (steady : IsSteady old)
     (documents : List Document) (held : Held old.cells old.image documents) where
@@ -51,7 +52,8 @@ module _ (id : List ℕ) (stamp : Option ℕ) (body : List ℕ) (old new : Devic
   pub refused_keeps : (refusal : Refusal) → refusal ≢ refusals.DeviceFault → IngestComesTo id stamp body old new
       → IngestEnds id stamp body old new (Err refusal) → Held new.cells new.image documents
   refused_keeps refusals.DeviceFault other comes ends = absurd (other refl)
-  refused_keeps (refusals.Tampered e) other comes ends = absurd (none_named old new e device device_new tells still steady
+  refused_keeps (refusals.Tampered e) other comes ends =
+      absurd (none_named old new e device device_new tells still steady
       (ends tells))
   refused_keeps refusals.StampNeeded other comes ends = settled_keeps ends.ready ends.settled
   refused_keeps refusals.StampUnused other comes ends = settled_keeps ends.ready ends.settled

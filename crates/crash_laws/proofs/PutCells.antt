@@ -178,7 +178,8 @@ module _ {cells : ℕ} {old : Image} (g : Layout) (v : IsVolume cells old g) (n 
 
       -- where a journal cell goes
       target_is : (k cell : ℕ) (value : List ℕ) (copied : RecordCell)
-          → CopiesIndexCell old start reserved journal k cell copied → old (journal_at start reserved journal + k) ≡ Some value
+          → CopiesIndexCell old start reserved journal k cell copied
+          → old (journal_at start reserved journal + k) ≡ Some value
           → target_of value ≡ cell
       target_is k cell value copied x stands =
           let same : x.entry ≡ value = some_is x.entry value (sym x.stands ∙ stands) in

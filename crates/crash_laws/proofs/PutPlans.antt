@@ -35,7 +35,8 @@ use Rattle.crash_laws.proofs.PlanPhases.{left_in}
 use Rattle.crash_laws.proofs.StampLeft.{stamp_left}
 use Rattle.crash_laws.proofs.WellPlanned.{ends_as, plan_of, was_sound, well_planned}
 
-module _ (id : List ℕ) (stamp : Option ℕ) (body : List ℕ) (old looked new : DeviceState) (r : Ready) (p : Plan) (tells : IsTrue old.tells)
+module _ (id : List ℕ) (stamp : Option ℕ) (body : List ℕ) (old looked new : DeviceState) (r : Ready) (p : Plan)
+    (tells : IsTrue old.tells)
     (h : HasSettled old looked r) (device : IsDevice old) (device_looked : IsDevice looked)
     (less : r.horizon < r.volume.geometry.slots) (plans : IsPlanFor r id stamp body h.settled looked p)
     (puts : PutsPlan r.horizon p looked new) (still : IsStill old.foreign_writes new.foreign_writes)
@@ -70,7 +71,8 @@ module _ (id : List ℕ) (stamp : Option ℕ) (body : List ℕ) (old looked new 
   takes = subst (IsStampFor r.volume.geometry) plans.stamped plans.suits.stamp
 
   pub well_made : (after : Image) × IsWellPlanned g looked.image after (plan_of r.horizon p id body)
-  well_made = well_planned old looked r tells h still_looked device device_looked steady id stamp body takes plans.index less plans.has
+  well_made = well_planned old looked r tells h still_looked device device_looked steady id stamp body takes
+      plans.index less plans.has
       p plans.starts plans.suits plans.document plans.stamped plans.blocks plans.journal
 
   pub cells_are : g.cells ≡ old.cells

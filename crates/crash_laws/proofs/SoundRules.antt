@@ -336,7 +336,10 @@ module _ {g : Layout} {image after : Image} (e : Extends image after) (s : IsSet
                 c.1,
                 back w c.2,
                 λ start reserved x. c.3 start reserved (holds_on e x),
-                λ version. let t = c.4 version in record { seconds = t.seconds; stamp = stamp_stood m t.seconds inside t.stamp },
+                λ version. let t = c.4 version in record {
+                  seconds = t.seconds;
+                  stamp = stamp_stood m t.seconds inside t.stamp;
+                },
               ))
               r.outcome;
         }

@@ -12,7 +12,8 @@ use Rattle.crash_laws.specs.Steadiness.{StaysSteadyBy}
 use Rattle.crash_laws.proofs.LeftByIngest.{by_whole, nothing_done, stays_by}
 use Rattle.crash_laws.proofs.PutPlans.{crashes_put}
 
-module _ (id : List ℕ) (stamp : Option ℕ) (body : List ℕ) (old new : DeviceState) (device : IsDevice old) (device_new : IsDevice new)
+module _ (id : List ℕ) (stamp : Option ℕ) (body : List ℕ) (old new : DeviceState) (device : IsDevice old)
+    (device_new : IsDevice new)
     (tells : IsTrue old.tells) (still : IsStill old.foreign_writes new.foreign_writes) (steady : IsSteady old) where
   pub comes_steady : IngestComesTo id stamp body old new → StaysSteadyBy id stamp body old new
   comes_steady (nothing same) = nothing_done id stamp body old new same steady

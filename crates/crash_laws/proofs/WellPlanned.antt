@@ -196,7 +196,8 @@ module _ (old looked : DeviceState) (r : Ready) (tells : IsTrue old.tells) (h : 
         (subst (λ (i : Image). EndsBelow g i r.horizon r.edge) same_walked (ends_2 r h tells)) given
         (subst (λ (i : Image). IsLater g i r.horizon stamp) same_walked later_now)
         (subst (λ (i : Image). EndsPath g i has.level has.place) same_walked ends_path) digest_is
-        (subst (λ (i : Image). PassedDown g i (sought_in g.cells g id) has.level has.place.child) same_walked passed_down)
+        (subst (λ (i : Image). PassedDown g i (sought_in g.cells g id) has.level has.place.child)
+        same_walked passed_down)
         has.planned)
 
     -- the edge is one of what stands
@@ -245,7 +246,8 @@ module _ (old looked : DeviceState) (r : Ready) (tells : IsTrue old.tells) (h : 
       pub well_planned : (after : Image) × IsWellPlanned g looked.image after (plan_of r.horizon p id body)
       well_planned =
           let at : Image → Type 0 = λ i. (after : Image) × IsWellPlanned g i after (plan_of r.horizon p id body) in
-          subst (λ (i : Image). (after : Image) × IsWellPlanned g i after (plan_of r.horizon p id body)) (sym same_walked)
+          subst (λ (i : Image). (after : Image) × IsWellPlanned g i after (plan_of r.horizon p id body))
+          (sym same_walked)
           (well (answered {g = g} {p = plan_of r.horizon p id body} {old = has.walked} {new = looked} tells_walked
           still_walked (walk.quiet still_walked)
           (subst (λ (i : Image). TakesSlot g i (plan_of r.horizon p id body) (p.start + index.block_length))

@@ -19,8 +19,8 @@
 //! written and its slot not done; or rule 6, where a done slot's target is blank, if the last slot's journal names it.
 //! Where somebody else writes, nothing is said.
 //!
-//! `record_top` says this of its commands. `specs/SettlingSteadiness.antt` says what is left, and `specs/SettlingLaws.antt`
-//! has the laws' sentences.
+//! `record_top` says this of its commands. `specs/SettlingSteadiness.antt` says what is left, and
+//! `specs/SettlingLaws.antt` has the laws' sentences.
 ghost use Rattle.crash_laws.specs.SettlingLaws.{LookingEndsAs, LookingFindsNone, LookingStaysSteady, SettledWasSound, SettlingEndsAs, SettlingNamesNone, SettlingStaysSteady, SoundIsUnbroken, SureIsSteady, WholeFromTheStart};
 
 /// Where all that stands is sure, a device is steady if that is blank or sound.

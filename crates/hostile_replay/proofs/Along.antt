@@ -1,5 +1,5 @@
--- What stays along the turns of a world: the device has as many cells, what is sure stays sure, and the count of foreign
--- writes does not fall.
+-- What stays along the turns of a world: the device has as many cells, what is sure stays sure, and the count of
+-- foreign writes does not fall.
 use Rattle.std.proofs.Common.{◌≡◌, ◌≤◌, ℕ, Bool, true, false, if◌then◌else◌, List, [], ◌∷◌, ◌++◌, Option, Some, refl, sym, ap, subst, ◌∙◌, arith}
 use Rattle.cell_types.specs.Image.{Extends}
 use Rattle.worm_device.specs.State.{DeviceState, IsDevice}

@@ -26,7 +26,10 @@ rose_or_still : (a b : ℕ) → a ≤ b → Rose a b ⊎ IsStill a b
 rose_or_still a b le = ⊎_elim
     (λ (less : a < b). inl (omega (arith, less)))
     (λ (most : b ≤ a). ⊎_elim
-    (λ (below : a < 18446744073709551615). inr (record { same = omega (arith, le, most); below = omega (arith, below) }))
+    (λ (below : a < 18446744073709551615). inr (record {
+      same = omega (arith, le, most);
+      below = omega (arith, below);
+    }))
     (λ (top : 18446744073709551615 ≤ a). inl (omega (arith, top, le)))
     (cases_lt a 18446744073709551615))
     (cases_lt a b)
@@ -51,7 +54,8 @@ named_licensed (on_path ready slot past rule lies licensed) = licensed
 named_licensed (behind_path ready slot past growth licensed) = licensed
 
 -- the licence speaks of the device as the command began, which stands as before
-at_entry : (plan : Schedule) (old new : Memory) (e : Evidence) → IsLicensed (device_of (begun_with plan old)) (device_of new) e
+at_entry : (plan : Schedule) (old new : Memory) (e : Evidence)
+    → IsLicensed (device_of (begun_with plan old)) (device_of new) e
     → IsLicensed (device_of old) (device_of new) e
 at_entry plan old new e l = record {
   stands = l.stands;

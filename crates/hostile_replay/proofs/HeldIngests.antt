@@ -79,7 +79,8 @@ one_of t gives same stands holds = ⊎_elim
 
 -- a command that adds no document
 none_added : {turns : List Turn} {old new : DeviceState} (t : Turn) → MayGive t.event t.reply [] → IsDevice old
-    → IsDevice new → new.cells ≡ old.cells → IsSteadyFrom turns old → LeavesHeld old new → IsSteadyFrom (turns ++ t ∷ []) new
+    → IsDevice new → new.cells ≡ old.cells → IsSteadyFrom turns old → LeavesHeld old new
+    → IsSteadyFrom (turns ++ t ∷ []) new
 none_added {turns} {old} {new} t gives device device_new same stands adds = record {
   steady = adds.stays.steady;
   image = no_more t gives same
@@ -90,8 +91,10 @@ none_added {turns} {old} {new} t gives device device_new same stands adds = reco
 }
 
 -- a crash in an ingest leaves what one of two holds, or one document more
-left_by : (id : List ℕ) (stamp : Option ℕ) (body : List ℕ) (old new : DeviceState) (image : Image) → IsDevice old → IsSteady old → StaysSteadyBy id stamp body old new
-    → Between new.sure new.image image → HoldsOneOf old.cells old.sure old.image image ⊎ HoldsOneMore id stamp body old image
+left_by : (id : List ℕ) (stamp : Option ℕ) (body : List ℕ) (old new : DeviceState) (image : Image) → IsDevice old
+    → IsSteady old → StaysSteadyBy id stamp body old new
+    → Between new.sure new.image image → HoldsOneOf old.cells old.sure old.image image
+    ⊎ HoldsOneMore id stamp body old image
 left_by id stamp body old new image device steady stays between = ⊎_elim
     (λ (before : LeftSince old old.moment image). ⊎_elim
     (λ (b : Between old.sure old.image image). inl (left_between old device steady image b).holds)
@@ -189,7 +192,8 @@ crashed : {turns : List Turn} {keep : List ℕ} {old new : Memory} {crash : _} (
     → IsSteadyFrom (turns ++ t ∷ []) (device_of new)
 crashed {turns} {keep} {old} {new} t gives device same stands c = record {
   steady = sure_steady (device_of new) (λ cell. c.sure cell)
-      (subst (λ (n : ℕ). IsBlankOrSound n (device_of new).image) (sym same) (stands.steady.each (device_of new).image between));
+      (subst (λ (n : ℕ). IsBlankOrSound n (device_of new).image) (sym same)
+      (stands.steady.each (device_of new).image between));
   image = one_of t gives same stands held;
   sure = one_of t gives same stands
       (subst (HoldsOneOf old.cells (device_of old).sure (device_of old).image)
@@ -203,13 +207,15 @@ crashed {turns} {keep} {old} {new} t gives device same stands c = record {
     between = record {
       above = crash_sure device c;
       below = record {
-        keeps = λ cell value is. kept_below (is_among cell keep) ((device_of old).image cell) ((device_of old).sure cell)
+        keeps = λ cell value is. kept_below (is_among cell keep) ((device_of old).image cell)
+            ((device_of old).sure cell)
             value (device.sure.keeps cell) (sym (c.image cell) ∙ is);
       };
     }
 
     held : HoldsOneOf old.cells (device_of old).sure (device_of old).image (device_of new).image
-    held = steady_two (λ other e f. stands.steady.each other (record { above = e; below = f })) between.above between.below
+    held = steady_two (λ other e f. stands.steady.each other (record { above = e; below = f }))
+        between.above between.below
 
 -- where nothing stands
 new_stands : (m : Memory) → IsNew m → IsSteadyFrom [] (device_of m)
@@ -231,7 +237,8 @@ new_stands m new = record {
     blank_below e cell = blank_before e (blank cell)
 
 -- nothing happens
-same_stands : {turns : List Turn} {old new : DeviceState} (t : Turn) → MayGive t.event t.reply [] → new.cells ≡ old.cells
+same_stands : {turns : List Turn} {old new : DeviceState} (t : Turn) → MayGive t.event t.reply []
+    → new.cells ≡ old.cells
     → new.image ≡ old.image → new.sure ≡ old.sure → IsSteadyFrom turns old → IsSteadyFrom (turns ++ t ∷ []) new
 same_stands {turns} {old} {new} t gives cells image sure stands = record {
   steady = record {
@@ -286,7 +293,8 @@ begun_by_steady (event.Foreign at value) m s = record { each = s.each }
 begun_by_steady (event.Crash keep) m s = record { each = s.each }
 
 module _ (whole : CommandsAreWhole) {turns : List Turn} (old new : Memory) (device : IsDevice (device_of old))
-    (device_new : IsDevice (device_of new)) (alone : new.foreign_writes ≡ 0) (stands : IsSteadyFrom turns (device_of old)) where
+    (device_new : IsDevice (device_of new)) (alone : new.foreign_writes ≡ 0)
+    (stands : IsSteadyFrom turns (device_of old)) where
   still : (e : Event) (r : Reply) → Turns e r old new → IsStill old.foreign_writes new.foreign_writes
   still e r t =
       let goes = turn_goes e r old new device t in
@@ -294,19 +302,22 @@ module _ (whole : CommandsAreWhole) {turns : List Turn} (old new : Memory) (devi
 
   pub whole_turn : (e : Event) (r : Reply) → IsCommand e → Turns e r old new → IsWholeTurn e r old new
   whole_turn e r command t =
-      whole e r old new (begun_by_device e old device) device_new (begun_by_steady e old stands.steady) (still e r t) command t
+      whole e r old new (begun_by_device e old device) device_new (begun_by_steady e old stands.steady)
+      (still e r t) command t
 
   same_cells : (e : Event) (r : Reply) → Turns e r old new → new.cells ≡ old.cells
   same_cells e r t = (turn_goes e r old new device t).cells
 
   adds_none : (e : Event) (r : Reply) (plan : Schedule) → MayGive e r [] → Turns e r old new
-      → LeavesHeld (device_of (begun_with plan old)) (device_of new) → IsSteadyFrom (turns ++ turn_of e r old new ∷ []) (device_of new)
+      → LeavesHeld (device_of (begun_with plan old)) (device_of new)
+      → IsSteadyFrom (turns ++ turn_of e r old new ∷ []) (device_of new)
   adds_none e r plan gives t adds = none_added (turn_of e r old new) gives (begun_device plan old device) device_new
       (same_cells e r t) (begun_stands plan old stands) adds
 
   step : (e : Event) (r : Reply) → Turns e r old new → IsSteadyFrom (turns ++ turn_of e r old new ∷ []) (device_of new)
   step (event.Format slots lists version plan) r t = adds_none (event.Format slots lists version plan) r plan
-      (said.none (event.Format slots lists version plan) r tt) t (whole_turn (event.Format slots lists version plan) r tt t).leaves
+      (said.none (event.Format slots lists version plan) r tt) t
+      (whole_turn (event.Format slots lists version plan) r tt t).leaves
   step (event.Find terms plan) r t = adds_none (event.Find terms plan) r plan
       (said.none (event.Find terms plan) r tt) t (whole_turn (event.Find terms plan) r tt t).leaves
   step (event.Lookup id plan) r t = adds_none (event.Lookup id plan) r plan
@@ -317,18 +328,25 @@ module _ (whole : CommandsAreWhole) {turns : List Turn} (old new : Memory) (devi
       (said.none (event.Recover plan) r tt) t (whole_turn (event.Recover plan) r tt t).leaves
   step (event.Ingest id stamp body plan) (reply.Acknowledged n) t =
       let adds = (whole_turn (event.Ingest id stamp body plan) (reply.Acknowledged n) tt t).leaves in
-      acknowledged (begun_device plan old device) device_new (same_cells (event.Ingest id stamp body plan) (reply.Acknowledged n) t)
-      (begun_stands plan old stands) id stamp body (turn_of (event.Ingest id stamp body plan) (reply.Acknowledged n) old new) n
+      acknowledged (begun_device plan old device) device_new
+      (same_cells (event.Ingest id stamp body plan) (reply.Acknowledged n) t)
+      (begun_stands plan old stands) id stamp body (turn_of (event.Ingest id stamp body plan)
+      (reply.Acknowledged n) old new) n
       (said.stored id stamp body plan n) adds.stays.steady (adds.adds n refl)
   step (event.Ingest id stamp body plan) (reply.Refused refusals.DeviceFault) t =
       let adds = (whole_turn (event.Ingest id stamp body plan) (reply.Refused refusals.DeviceFault) tt t).leaves in
-      cut_short (begun_device plan old device) device_new (same_cells (event.Ingest id stamp body plan) (reply.Refused refusals.DeviceFault) t)
-      (begun_stands plan old stands) id stamp body (turn_of (event.Ingest id stamp body plan) (reply.Refused refusals.DeviceFault) old new)
-      (λ n. said.cut_short id stamp body plan n) (said.none (event.Ingest id stamp body plan) (reply.Refused refusals.DeviceFault) tt) adds.stays
+      cut_short (begun_device plan old device) device_new (same_cells (event.Ingest id stamp body plan)
+      (reply.Refused refusals.DeviceFault) t)
+      (begun_stands plan old stands) id stamp body (turn_of (event.Ingest id stamp body plan)
+      (reply.Refused refusals.DeviceFault) old new)
+      (λ n. said.cut_short id stamp body plan n) (said.none (event.Ingest id stamp body plan)
+      (reply.Refused refusals.DeviceFault) tt) adds.stays
   step (event.Ingest id stamp body plan) (reply.Refused refusal) t =
       let adds = (whole_turn (event.Ingest id stamp body plan) (reply.Refused refusal) tt t).leaves in
-      refused (begun_device plan old device) device_new (same_cells (event.Ingest id stamp body plan) (reply.Refused refusal) t)
-      (begun_stands plan old stands) id stamp body (turn_of (event.Ingest id stamp body plan) (reply.Refused refusal) old new)
+      refused (begun_device plan old device) device_new (same_cells (event.Ingest id stamp body plan)
+      (reply.Refused refusal) t)
+      (begun_stands plan old stands) id stamp body (turn_of (event.Ingest id stamp body plan)
+      (reply.Refused refusal) old new)
       (said.none (event.Ingest id stamp body plan) (reply.Refused refusal) tt) adds.stays (adds.keeps tt)
   step (event.Ingest id stamp body plan) r t = absurd t.answers
   step (event.Foreign at value) reply.ForeignDone t =
@@ -380,7 +398,10 @@ ingests_held whole = record {
       let device_mid = (along from before mid device first).1 in
       let z = stands_along whole before mid after to device_mid s rest alone in
       held_up mid.cells (device_of mid).sure (device_of to).image sure documents
-      (s.steady.each (device_of mid).sure (record { above = extends_self (device_of mid).sure; below = device_mid.sure }))
+      (s.steady.each (device_of mid).sure (record {
+        above = extends_self (device_of mid).sure;
+        below = device_mid.sure;
+      }))
       (subst (λ (n : ℕ). IsBlankOrSound n (device_of to).image) goes.0.cells
       (z.steady.each (device_of to).image (record { above = goes.1.sure; below = extends_self (device_of to).image })))
       (extends_then goes.0.sure goes.1.sure) low

@@ -18,7 +18,8 @@ the_one : (d e : Document) → Contains (d ∷ []) e → d ≡ e
 the_one d e among = ⊎_elim (λ (c : Contains [] e). absurd (none_in e c)) (λ (same : d ≡ e). same)
     (Contains-push_cases [] d e among)
 
-last_is_greatest : (from : ℕ) (ds : List Document) (d e : Document) → Rise from (ds ++ d ∷ []) → Contains ds e → e.slot < d.slot
+last_is_greatest : (from : ℕ) (ds : List Document) (d e : Document) → Rise from (ds ++ d ∷ []) → Contains ds e
+    → e.slot < d.slot
 last_is_greatest from [] d e rise among = absurd (none_in e among)
 last_is_greatest from (x ∷ ds) d e rise among = ⊎_elim
     (λ (here : Contains (x ∷ []) e).
@@ -27,7 +28,8 @@ last_is_greatest from (x ∷ ds) d e rise among = ⊎_elim
     (Contains-append_cases (x ∷ []) ds e among)
 
 -- a document that stands behind the others of an image is not among them
-pub last_is_new : (cells : ℕ) (image : Image) (ds : List Document) (d : Document) → Held cells image (ds ++ d ∷ []) → Contains ds d → ⊥
+pub last_is_new : (cells : ℕ) (image : Image) (ds : List Document) (d : Document) → Held cells image (ds ++ d ∷ [])
+    → Contains ds d → ⊥
 last_is_new cells image ds d (none blank is) among =
     omega (arith, length-append ds (d ∷ []), ap (λ (l : List Document). length l) is)
 last_is_new cells image ds d (of_after after a are) among =

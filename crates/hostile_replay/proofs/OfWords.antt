@@ -25,7 +25,8 @@ use Rattle.hostile_replay.proofs.Returned.{acknowledged_returned}
 use Rattle.hostile_replay.proofs.Standing.{returned_stand}
 use Rattle.hostile_replay.proofs.Whole.{commands_whole}
 
-no_format : (g : Layout) (old new : DeviceState) (refusal : Refusal) → FormatEnds g old new (Err refusal) → IsOfWords refusal → ⊥
+no_format : (g : Layout) (old new : DeviceState) (refusal : Refusal) → FormatEnds g old new (Err refusal)
+    → IsOfWords refusal → ⊥
 no_format g old new refusals.Usage ends of = ends
 no_format g old new refusals.BadIdentifier ends of = ends
 no_format g old new (refusals.BadWord i) ends of = ends
@@ -46,7 +47,8 @@ no_ingest id stamp body old new refusals.SourceFault ends of = ends
 no_ingest id stamp body old new refusals.SinkFault ends of = ends
 no_ingest id stamp body old new refusal ends of = of
 
-no_find : (terms : List (List ℕ)) (old new : DeviceState) (refusal : Refusal) → FindEnds terms old new (Err refusal) → IsOfWords refusal → ⊥
+no_find : (terms : List (List ℕ)) (old new : DeviceState) (refusal : Refusal) → FindEnds terms old new (Err refusal)
+    → IsOfWords refusal → ⊥
 no_find terms old new refusals.Usage ends of = ends
 no_find terms old new refusals.BadIdentifier ends of = ends
 no_find terms old new (refusals.BadWord i) ends of = ends
@@ -66,7 +68,8 @@ no_settle old new refusals.SourceFault ends of = ends
 no_settle old new refusals.SinkFault ends of = ends
 no_settle old new refusal ends of = of
 
-no_look_up : (id : List ℕ) (old new : DeviceState) (from to : SinkState) (refusal : Refusal) → (refusal ≡ refusals.SinkFault → ⊥) → LookUpEnds id old new from to (Err refusal) → IsOfWords refusal → ⊥
+no_look_up : (id : List ℕ) (old new : DeviceState) (from to : SinkState) (refusal : Refusal)
+    → (refusal ≡ refusals.SinkFault → ⊥) → LookUpEnds id old new from to (Err refusal) → IsOfWords refusal → ⊥
 no_look_up id old new from to refusals.Usage other ends of = ends
 no_look_up id old new from to refusals.BadIdentifier other ends of = ends
 no_look_up id old new from to (refusals.BadWord i) other ends of = ends

@@ -23,7 +23,8 @@ use Rattle.hostile_replay.specs.Sinks.{without_sink}
 use Rattle.hostile_replay.proofs.LookingUp.{look_up_refused}
 
 goes_by_plan : APlanIsKept → (plan : Schedule) (old : Memory) (begun now : MemoryDevice)
-    → memory_of begun ≡ begun_with plan old → Called (state_of begun) (state_of now) → GoesByPlan plan old (memory_of now)
+    → memory_of begun ≡ begun_with plan old → Called (state_of begun) (state_of now)
+    → GoesByPlan plan old (memory_of now)
 goes_by_plan kept plan old begun now is called =
     let k = kept begun now called (ap (λ (m : Memory). m.by_plan) is) in
     record {
@@ -49,7 +50,8 @@ module _ (kept : APlanIsKept) (plan : Schedule) (old : Memory) (begun now : Memo
       → called_body ≡ body → (n : ℕ) → Ingests called_id stamp called_body (state_of begun) (state_of now) (Ok n)
       → CarriesOut plan old (memory_of now) (λ s t. IngestAnswers id stamp body s t (reply.Acknowledged n))
   ingested id stamp body called_id called_body same_id same_body n ingests =
-      carried_out kept plan old begun now is (λ s t. IngestAnswers id stamp body s t (reply.Acknowledged n)) ingests.called
+      carried_out kept plan old begun now is (λ s t. IngestAnswers id stamp body s t
+      (reply.Acknowledged n)) ingests.called
       (subst (λ (i : List ℕ). Ingests i stamp body (state_of begun) (state_of now) (Ok n)) same_id
       (subst (λ (b : List ℕ). Ingests called_id stamp b (state_of begun) (state_of now) (Ok n)) same_body ingests))
 

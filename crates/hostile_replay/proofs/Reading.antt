@@ -1,4 +1,5 @@
--- A command that is done, from a steady device on, where nobody else writes, has read the device, and leaves it settled.
+-- A command that is done, from a steady device on, where nobody else writes, has read the device, and leaves it
+-- settled.
 use Rattle.std.proofs.Common.{◌≡◌, ℕ, List, [], ◌∷◌, ◌++◌, length, Option, Result, Ok, Err, refl, sym, ap, ◌∙◌, subst, arith}
 use Rattle.std.proofs.lemmas.List.{length-append}
 use Rattle.std.proofs.lemmas.Option.{none-some}
@@ -64,7 +65,8 @@ module _ (s t : DeviceState) (device : IsDevice s) (device_new : IsDevice t) (be
   done_first a answer ok (settling refusal is settles) = absurd (no_answer answer a refusal ok is)
   done_first a answer ok (settled r has) = done_by r has
 
-  module _ (id : List ℕ) (stamp : Option ℕ) (body : List ℕ) (n : ℕ) (more : HasOneMore id stamp body n s t) (documents : List Document)
+  module _ (id : List ℕ) (stamp : Option ℕ) (body : List ℕ) (n : ℕ) (more : HasOneMore id stamp body n s t)
+      (documents : List Document)
       (held : Held s.cells s.image documents) where
     -- the document was added, so not just the others are held
     pub not_held : Held t.cells t.image documents → ⊥
@@ -109,7 +111,8 @@ module _ (plan : Schedule) (old new : Memory) (device : IsDevice (device_of (beg
   format_so slots lists version r turned done = absurd turned.answers
 
   ingest_so : (id : List ℕ) (stamp : Option ℕ) (body : List ℕ) (r : Reply)
-      → Turns (event.Ingest id stamp body plan) r old new → IsWholeTurn (event.Ingest id stamp body plan) r old new → (documents : List Document)
+      → Turns (event.Ingest id stamp body plan) r old new → IsWholeTurn (event.Ingest id stamp body plan) r old new
+      → (documents : List Document)
       → Held s.cells s.image documents → IsDoneReply r → IsDoneSo s t
   ingest_so id stamp body (reply.Acknowledged n) turned whole documents held done =
       let more = whole.leaves.adds n refl in
@@ -149,10 +152,13 @@ module _ (plan : Schedule) (old new : Memory) (device : IsDevice (device_of (beg
 pub done_so : (e : Event) (r : Reply) (old new : Memory) → IsDevice (device_of (begun_by e old))
     → IsDevice (device_of new) → IsSteady (device_of (begun_by e old)) → IsStill old.foreign_writes new.foreign_writes
     → IsCommand e → Turns e r old new → IsWholeTurn e r old new → (documents : List Document)
-    → Held old.cells (device_of old).image documents → IsDoneReply r → IsDoneSo (device_of (begun_by e old)) (device_of new)
-done_so (event.Format slots lists version plan) r old new device device_new steady alone command turned whole documents held done =
+    → Held old.cells (device_of old).image documents → IsDoneReply r
+    → IsDoneSo (device_of (begun_by e old)) (device_of new)
+done_so (event.Format slots lists version plan) r old new device device_new steady alone command turned whole
+    documents held done =
     format_so plan old new device device_new steady alone slots lists version r turned done
-done_so (event.Ingest id stamp body plan) r old new device device_new steady alone command turned whole documents held done =
+done_so (event.Ingest id stamp body plan) r old new device device_new steady alone command turned whole
+    documents held done =
     ingest_so plan old new device device_new steady alone id stamp body r turned whole documents held done
 done_so (event.Find terms plan) r old new device device_new steady alone command turned whole documents held done =
     find_so plan old new device device_new steady alone terms r turned done

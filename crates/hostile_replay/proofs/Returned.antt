@@ -62,7 +62,8 @@ turn_keeps (event.Ingest id stamp body plan) (reply.Acknowledged n) old new devi
     (ingested_kept device (t.answers.ends refl))
 turn_keeps e r old new device t d among = absurd (omega (arith, among.1))
 
-acknowledged_kept : (from : Memory) (turns : List Turn) (to : Memory) → IsDevice (device_of from) → AreInTurn from turns to
+acknowledged_kept : (from : Memory) (turns : List Turn) (to : Memory) → IsDevice (device_of from)
+    → AreInTurn from turns to
     → (d : Document) → Contains (acknowledged turns) d → IsSurelyKept (device_of to) d
 acknowledged_kept from [] to device leads d among = absurd (omega (arith, among.1))
 acknowledged_kept from (t ∷ turns) to device leads d among = ⊎_elim

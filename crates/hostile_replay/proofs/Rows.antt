@@ -45,15 +45,18 @@ turn_cells (event.Foreign at cell) r old new t = absurd t
 turn_cells (event.Crash keep) (reply.Crashed crash) old new t = ap (λ (m : Memory). m.cells) t.recorded
 turn_cells (event.Crash keep) r old new t = absurd t
 
-pub one_more_turn : (events : List Event) (i : ℕ) (e : Event) (r : Reply) (replies more : List Reply) (from mid new : Memory)
+pub one_more_turn : (events : List Event) (i : ℕ) (e : Event) (r : Reply) (replies more : List Reply)
+    (from mid new : Memory)
     → i < length events → e ≡ get_or events i e → IsSoFar (take i events) replies from mid
     → Turns e r mid new → IsDevice (device_of new) → more ≡ replies ++ r ∷ []
     → IsSoFar (take (i + 1) events) more from new
 one_more_turn events i e r replies more from mid new within is far turned device grown = record {
   world = record {
     turns = far.world.turns ++ t ∷ [];
-    events_are = longer ∙ ap (λ l. l ++ e ∷ []) far.world.events_are ∙ sym (map_on (λ (x : Turn). x.event) far.world.turns t);
-    replies_are = grown ∙ ap (λ l. l ++ r ∷ []) far.world.replies_are ∙ sym (map_on (λ (x : Turn). x.reply) far.world.turns t);
+    events_are = longer ∙ ap (λ l. l ++ e ∷ []) far.world.events_are
+        ∙ sym (map_on (λ (x : Turn). x.event) far.world.turns t);
+    replies_are = grown ∙ ap (λ l. l ++ r ∷ []) far.world.replies_are
+        ∙ sym (map_on (λ (x : Turn). x.reply) far.world.turns t);
     in_turn = in_turn_on from far.world.turns mid e r new far.world.in_turn device turned;
   };
   cells = turn_cells e r mid new turned ∙ far.cells;

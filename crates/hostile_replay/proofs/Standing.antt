@@ -34,7 +34,8 @@ match_stands m = record { body = m.body; stands = m.stands; bytes_is = m.bytes_i
 turn_stands : (e : Event) (r : Reply) (old new : Memory) → Turns e r old new → ReturnsStanding e r (device_of new)
 turn_stands (event.Find terms plan) (reply.Found matches) old new t =
     let finds = t.answers.searches.ends refl in
-    subst (λ (l : List Match). ((found : Match) → Contains l found → StandsAndMatches (device_of new) terms found) × MatchesRise 0 l)
+    subst (λ (l : List Match). ((found : Match) → Contains l found → StandsAndMatches (device_of new) terms found)
+    × MatchesRise 0 l)
     (sym t.answers.matches_are) (λ found among. match_stands (finds.only found among), finds.rise)
 turn_stands (event.Lookup id plan) (reply.Body slot body) old new t =
     let a = t.answers in

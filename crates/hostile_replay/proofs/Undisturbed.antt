@@ -79,7 +79,8 @@ turn_unshared (event.Lookup id plan) r old new alone t = unshared_count t alone
 turn_unshared (event.Audit plan) r old new alone t = unshared_count t alone
 turn_unshared (event.Recover plan) r old new alone t = unshared_count t alone
 turn_unshared (event.Foreign at cell) r old new alone t = absurd alone
-turn_unshared (event.Crash keep) (reply.Crashed crash) old new alone t = ap (λ (m : Memory). m.foreign_writes) t.recorded
+turn_unshared (event.Crash keep) (reply.Crashed crash) old new alone t =
+    ap (λ (m : Memory). m.foreign_writes) t.recorded
 turn_unshared (event.Crash keep) r old new alone t = absurd t
 
 pub turn_unfailed : (e : Event) (r : Reply) (old new : Memory) → IsPlain e → Turns e r old new

@@ -76,7 +76,8 @@ module _ (plan : Schedule) (old new : Memory) (device : IsDevice (device_of (beg
       stays = comes_steady id stamp body s t device device_new refl alone steady turned.answers.comes;
       adds = λ m same. subst (λ (k : ℕ). HasOneMore id stamp body k s t)
           (let one : reply.Acknowledged n ≡ reply.Acknowledged m = same in cc)
-          (comes_more id stamp body s t n device device_new refl alone steady (turned.answers.ends refl) turned.answers.comes);
+          (comes_more id stamp body s t n device device_new refl alone steady
+          (turned.answers.ends refl) turned.answers.comes);
       keeps = λ refused. absurd refused;
     };
     tells = λ done. absurd done;
@@ -87,7 +88,8 @@ module _ (plan : Schedule) (old new : Memory) (device : IsDevice (device_of (beg
       stays = comes_steady id stamp body s t device device_new refl alone steady turned.answers.comes;
       adds = λ m same. absurd cc;
       keeps = λ refused documents held.
-          refused_keeps id stamp body s t turned.answers.called device device_new refl alone steady documents held refusal
+          refused_keeps id stamp body s t turned.answers.called device device_new refl alone steady
+          documents held refusal
           (λ fault. subst IsTurnedDown (ap reply.Refused fault) refused) turned.answers.comes turned.answers.ends;
     };
     tells = λ done. absurd done;
@@ -104,10 +106,12 @@ module _ (plan : Schedule) (old new : Memory) (device : IsDevice (device_of (beg
       record {
         leaves = query_leaves s t device device_new begins a.searches.comes;
         tells = λ done documents held.
-            let stand = stand_now s t device device_new begins a.found documents held (Ok a.found) refl a.searches.comes in (
+            let stand =
+            stand_now s t device device_new begins a.found documents held (Ok a.found) refl a.searches.comes in (
               stand.1,
               subst (AreMatchesOf t terms documents) (sym a.matches_are)
-                  (just_these s t device device_new begins stand.0 documents stand.1 terms a.found.items (a.searches.ends refl)),
+                  (just_these s t device device_new begins stand.0 documents stand.1 terms a.found.items
+                  (a.searches.ends refl)),
             );
         no_alarm = λ e named. absurd cc;
       }
@@ -138,7 +142,8 @@ module _ (plan : Schedule) (old new : Memory) (device : IsDevice (device_of (beg
   refused_absent {id} a documents held = ⊎_elim
       (λ (p : (refusals.Absent ≡ a.refused) × (a.refused ≡ refusals.SinkFault → ⊥)).
       let looks = subst (λ (r : Refusal). LooksUp id s t a.from a.to (Err r)) (sym p.0) a.looks in
-      none_held s t device device_new begins id documents held (Err refusals.Absent) refl looks.comes (looks.ends.1 refl))
+      none_held s t device device_new begins id documents held (Err refusals.Absent) refl looks.comes
+      (looks.ends.1 refl))
       (λ (q : (a.refused ≡ refusals.SinkFault) × (refusals.Absent ≡ refusals.NoMemory)).
       absurd (let clash : refusals.Absent ≡ refusals.NoMemory = q.1 in cc))
       a.told

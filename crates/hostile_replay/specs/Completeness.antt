@@ -1,5 +1,5 @@
--- When a command of a world has to be done: from a steady device, where nobody else writes and no call fails. So a replay
--- that refuses what it could do is none.
+-- When a command of a world has to be done: from a steady device, where nobody else writes and no call fails. So a
+-- replay that refuses what it could do is none.
 use Rattle.std.specs.Prelude.{◌≡◌, ℕ, None, ⊤}
 use Rattle.cell_types.specs.Layout.{IsLayout, Layout}
 use Rattle.cell_types.specs.declared.refusal.Refusal.TheVariants as refusals
@@ -47,8 +47,8 @@ abbrev pub IsSettledReply : Reply → Type 0
 IsSettledReply (reply.Settled step) = ⊤
 IsSettledReply r = ⊥
 
--- What each event is answered where it can be done: a format on a blank device with a layout that may be, an ingest where
--- its document has a place, the others on a volume.
+-- What each event is answered where it can be done: a format on a blank device with a layout that may be, an ingest
+-- where its document has a place, the others on a volume.
 abbrev pub IsDoneWherePossible : Event → Reply → DeviceState → Type 0
 IsDoneWherePossible (event.Format slots lists version plan) r old =
     IsLayout (event_layout slots lists version old.cells) → ((cell : ℕ) → old.image cell ≡ None) → IsFormattedReply r

@@ -4,8 +4,8 @@
 --     tampering; every document returned stands on the device and matches; without foreign writes no cell is named, and
 --     the answers are those over the ingests in order, acknowledged ones whole and those cut short whole or absent.
 --
--- Turns that follow one another (`AreInTurn`) are the events with their replies and the device's states between them. Each
--- sentence is said of one turn `t` of them, with those before and after it. `Headline`, at the end, is all of it.
+-- Turns that follow one another (`AreInTurn`) are the events with their replies and the device's states between them.
+-- Each sentence is said of one turn `t` of them, with those before and after it. `Headline`, at the end, is all of it.
 use Rattle.std.specs.Prelude.{◌≡◌, ◌⊎◌, ℕ, List, [], ◌∷◌, ◌++◌, length, Contains, Option, Some, ⊤}
 use Rattle.cell_types.specs.Layout.{Layout}
 use Rattle.cell_types.specs.declared.refusal.Evidence.{Evidence}
@@ -28,10 +28,10 @@ use Rattle.script_replies.specs.declared.reply.Reply.TheVariants as reply
 use Rattle.command_laws.specs.Telling.{AreMatchesOf}
 use Rattle.hostile_replay.specs.Worlds.{AreInTurn, Turn, acknowledged}
 
--- A query that completes returns every acknowledged document that matches, or names a cell. A find that is done tells of
--- each of these documents that has the terms, by the rule of words of the volume that stands. A look-up of the identifier of
--- one of them answers just this one; never is it absent. What else a query may answer is that it names a cell, or that it
--- was not completed.
+-- A query that completes returns every acknowledged document that matches, or names a cell. A find that is done tells
+-- of each of these documents that has the terms, by the rule of words of the volume that stands. A look-up of the
+-- identifier of one of them answers just this one; never is it absent. What else a query may answer is that it names a
+-- cell, or that it was not completed.
 abbrev pub Returns : List Document → Event → Reply → DeviceState → Type 0
 Returns documents (event.Find terms plan) (reply.Found matches) s =
     (d : Document) → Contains documents d → HasTerms s.cells s.image d.body terms → HasMatch matches d.slot d.id d.body
@@ -66,8 +66,8 @@ ReturnedStand =
     (from to : Memory) (before after : List Turn) (t : Turn) → AreInTurn from (before ++ t ∷ after) to
     → ReturnsStanding t.event t.reply (device_of t.new)
 
--- The cell that is named is written, with the value that is told. It is a place of its rule, by the layout of cell 0; and
--- the rule is broken there, or somebody else wrote in this event.
+-- The cell that is named is written, with the value that is told. It is a place of its rule, by the layout of cell 0;
+-- and the rule is broken there, or somebody else wrote in this event.
 pub record IsEvident (e : Evidence) (old new : DeviceState) : Type 0 where
   pub stands : new.image e.cell ≡ Some e.found
   pub layout : Layout
@@ -108,8 +108,8 @@ TellsExactly documents (event.Lookup id plan) (reply.Refused refusals.Absent) s 
     (d : Document) → Contains documents d → d.id ≡ id → ⊥
 TellsExactly documents e r s = ⊤
 
--- Without foreign writes no cell is named, and a query that is done answers over just the documents that were held before
--- it, which stand behind it.
+-- Without foreign writes no cell is named, and a query that is done answers over just the documents that were held
+-- before it, which stand behind it.
 pub record ToldIsExact : Type 0 where
   pub unnamed : (from to : Memory) (before after : List Turn) (t : Turn) (e : Evidence) → IsDevice (device_of from)
       → IsNew from → AreInTurn from (before ++ t ∷ after) to → IsUndisturbed t.new
@@ -117,7 +117,8 @@ pub record ToldIsExact : Type 0 where
   pub exact : (from to : Memory) (before after : List Turn) (t : Turn) → IsDevice (device_of from)
       → IsNew from → AreInTurn from (before ++ t ∷ after) to → IsUndisturbed t.new → IsDoneQuery t.event t.reply
       → (documents : List Document) × Held t.old.cells (device_of t.old).image documents
-      × AreDocuments t.new.cells (device_of t.new).image documents × TellsExactly documents t.event t.reply (device_of t.new)
+      × AreDocuments t.new.cells (device_of t.new).image documents
+      × TellsExactly documents t.event t.reply (device_of t.new)
 
 -- an event gives no document, unless it is an ingest that was acknowledged
 abbrev pub MayGiveNone : Event → Reply → Type 0
@@ -136,7 +137,8 @@ pub data MayGive : Event → Reply → List Document → Type 0 where
 -- these documents come from these turns, in their order
 pub data ComeFrom : List Turn → List Document → Type 0 where
   nothing_came : ComeFrom [] []
-  followed : (turns : List Turn) (documents : List Document) (t : Turn) (given : List Document) → ComeFrom turns documents
+  followed : (turns : List Turn) (documents : List Document) (t : Turn) (given : List Document)
+      → ComeFrom turns documents
       → MayGive t.event t.reply given → ComeFrom (turns ++ t ∷ []) (documents ++ given)
 
 -- what is held comes from the ingests

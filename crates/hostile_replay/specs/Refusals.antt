@@ -7,8 +7,8 @@ use Rattle.script_events.specs.declared.event.Event.{Event}
 use Rattle.script_replies.specs.declared.reply.Reply.TheVariants as reply
 use Rattle.hostile_replay.specs.Turns.{Turns}
 
--- It is of words, of a source or of a sink: an event's words were checked as the script was read, and no source or sink of
--- others is handed in.
+-- It is of words, of a source or of a sink: an event's words were checked as the script was read, and no source or sink
+-- of others is handed in.
 abbrev pub IsOfWords : Refusal → Type 0
 IsOfWords refusals.Usage = ⊤
 IsOfWords refusals.BadIdentifier = ⊤

@@ -1,5 +1,5 @@
--- An event from a steady device on, where nobody else writes: which documents stand behind it, and that a query tells of
--- just those.
+-- An event from a steady device on, where nobody else writes: which documents stand behind it, and that a query tells
+-- of just those.
 use Rattle.std.specs.Prelude.{◌≡◌, ℕ, List, Option, true, ⊤}
 use Rattle.cell_types.specs.declared.refusal.Evidence.{Evidence}
 use Rattle.cell_types.specs.declared.refusal.Refusal.TheVariants as refusals
@@ -25,8 +25,8 @@ IsTurnedDown (reply.Refused refusals.DeviceFault) = ⊥
 IsTurnedDown (reply.Refused refusal) = ⊤
 IsTurnedDown r = ⊥
 
--- An ingest: where it is acknowledged its document stands behind the others, with its stamp, sure; where it is refused with no fault of
--- the device, just those that stood.
+-- An ingest: where it is acknowledged its document stands behind the others, with its stamp, sure; where it is refused
+-- with no fault of the device, just those that stood.
 pub record LeavesIngest (id : List ℕ) (stamp : Option ℕ) (body : List ℕ) (r : Reply) (old new : DeviceState) : Type 0
   where
     pub stays : StaysSteadyBy id stamp body old new

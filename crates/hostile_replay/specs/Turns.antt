@@ -92,9 +92,9 @@ RecoverAnswers old new (reply.Settled step) = (r : Ready) × Settles old new (Ok
 RecoverAnswers old new (reply.Refused refusal) = Settles old new (Err refusal)
 RecoverAnswers old new other = ⊥
 
--- The command went by its plan. What was planned as it began stayed planned; and it was a row of calls, in each of which
--- just those planned foreign writes were made whose moment named the call and whose cell was blank then, and which failed
--- exactly where the plan has it fail.
+-- The command went by its plan. What was planned as it began stayed planned; and it was a row of calls, in each of
+-- which just those planned foreign writes were made whose moment named the call and whose cell was blank then, and
+-- which failed exactly where the plan has it fail.
 pub record GoesByPlan (plan : Schedule) (old new : Memory) : Type 0 where
   pub marks : new.marks ≡ (begun_with plan old).marks
   pub plan_is : new.plan ≡ plan_by plan

@@ -1,7 +1,7 @@
--- Worlds of which the events alone tell that nobody else writes, or that nothing befalls them: no foreign write is planned
--- and none is made by hand; or each event is a command and its plan is empty. From a new device on, the count of foreign
--- writes then stays 0, and that of faults too: so what is said elsewhere of a world that nobody else wrote in, and of
--- commands in which no call fails, holds of each turn of such a world.
+-- Worlds of which the events alone tell that nobody else writes, or that nothing befalls them: no foreign write is
+-- planned and none is made by hand; or each event is a command and its plan is empty. From a new device on, the count
+-- of foreign writes then stays 0, and that of faults too: so what is said elsewhere of a world that nobody else wrote
+-- in, and of commands in which no call fails, holds of each turn of such a world.
 use Rattle.std.specs.Prelude.{◌≡◌, List, [], ◌∷◌, ◌++◌, map, None, ⊤}
 use Rattle.std.specs.List.{All}
 use Rattle.tamper_rules.specs.Settling.{Held, Settled}
@@ -51,8 +51,8 @@ IsPlain (event.Crash keep) = ⊥
 abbrev pub events_of : List Turn → List Event
 events_of turns = map (λ (t : Turn). t.event) turns
 
--- What turns leave in which nobody else wrote: the count says so; whatever a crash would leave now is blank or sound; and
--- what is held comes from the ingests.
+-- What turns leave in which nobody else wrote: the count says so; whatever a crash would leave now is blank or sound;
+-- and what is held comes from the ingests.
 pub record IsLeftAlone (turns : List Turn) (to : Memory) : Type 0 where
   pub undisturbed : IsUndisturbed to
   pub steady : IsSteady (device_of to)
@@ -77,8 +77,8 @@ abbrev pub IsDoneReply : Reply → Type 0
 IsDoneReply (reply.Refused refusal) = ⊥
 IsDoneReply r = ⊤
 
--- A command in a world that nothing befell: it leaves and tells what it should, and it is done wherever it can be. Where it
--- is done it has read the device, and what stands behind it is a settled volume.
+-- A command in a world that nothing befell: it leaves and tells what it should, and it is done wherever it can be.
+-- Where it is done it has read the device, and what stands behind it is a settled volume.
 pub record IsPlainTurn (t : Turn) : Type 0 where
   pub device : IsDevice (device_of (begun_by t.event t.old))
   pub device_new : IsDevice (device_of t.new)

@@ -17,8 +17,8 @@ pub record Turn : Type 0 where
   pub old : Memory
   pub new : Memory
 
--- These turns follow one another, from this device to that one: each begins where the one before ended, and does what its
--- event says.
+-- These turns follow one another, from this device to that one: each begins where the one before ended, and does what
+-- its event says.
 abbrev pub AreInTurn : Memory → List Turn → Memory → Type 0
 AreInTurn from [] to = to ≡ from
 AreInTurn from (t ∷ turns) to =

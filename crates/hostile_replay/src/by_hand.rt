@@ -38,7 +38,8 @@ fn reply_of_foreign(written: Written) -> Reply
 /// A crash.
 pub fn play_crash(keep: &[u32], device: &mut MemoryDevice) -> Result<Reply, NoMemory>
     requires cells { (memory_of device.old).cells ≤ MAX_REPLAYED_CELLS }
-    ensures { IfOk result (λ r. CrashAnswers keep.now (memory_of device.old) (memory_of device.new) r) }
+    ensures { IfOk result (λ r.
+        CrashAnswers keep.now (memory_of device.old) (memory_of device.new) r) }
 {
     begin_by_hand(device)?;
     match device.crash(keep) {

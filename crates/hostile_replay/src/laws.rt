@@ -11,9 +11,9 @@
 //!     recover                                  slot 0 completed
 //!     find hello                               found 0
 //!
-//! The ingest was not acknowledged, so nothing was owed; that its document is found, whole, is one of the two ways in which
-//! one that was cut short may end. Each turn of a world says what its engine's clause says of the call, and that the device
-//! went by the event's plan; the laws here follow from these for every world, by induction along its turns.
+//! The ingest was not acknowledged, so nothing was owed; that its document is found, whole, is one of the two ways in
+//! which one that was cut short may end. Each turn of a world says what its engine's clause says of the call, and that
+//! the device went by the event's plan; the laws here follow from these for every world, by induction along its turns.
 //!
 //! A replay makes worlds of scripts, on a real device in memory; its replies are those of a world, so all that is said
 //! here holds of them. Begin with `specs/Headline.antt`, the page of the promise; `specs/Turns.antt` and
@@ -60,13 +60,14 @@ pub fn commands_complete()
     ensures { CommandsComplete }
 {}
 
-/// From a new device on, events in which nobody else writes leave it undisturbed, and what is held comes from the ingests.
+/// From a new device on, events in which nobody else writes leave it undisturbed, and what is held comes from the
+/// ingests.
 pub fn unshared_is_alone()
     ensures { UnsharedIsAlone }
 {}
 
-/// From a new device on, commands for which nothing is planned leave it undisturbed, no call fails, what is held are the
-/// documents that were acknowledged, and each command is done wherever it can be.
+/// From a new device on, commands for which nothing is planned leave it undisturbed, no call fails, what is held are
+/// the documents that were acknowledged, and each command is done wherever it can be.
 pub fn plain_is_done()
     ensures { PlainIsDone }
 {}

@@ -9,12 +9,12 @@
 //!     recover                                  slot 0 completed
 //!     find hello                               found 0
 //!
-//! Each event is a command of its own: first the device takes room for all that it may record, then the command begins with
-//! the event's plan, and then the engine's own call is made, the one that a program makes on a real device. The device
-//! carries the plan out, so the engine meets its faults and foreign writes wherever they fall.
+//! Each event is a command of its own: first the device takes room for all that it may record, then the command begins
+//! with the event's plan, and then the engine's own call is made, the one that a program makes on a real device. The
+//! device carries the plan out, so the engine meets its faults and foreign writes wherever they fall.
 //!
-//! At Ok the replies are those of a world (`IsWorld`), so all that is promised of worlds holds of them. The only refusal is
-//! want of memory for the replay itself; a command that finds none is answered so, and the replay goes on.
+//! At Ok the replies are those of a world (`IsWorld`), so all that is promised of worlds holds of them. The only
+//! refusal is want of memory for the replay itself; a command that finds none is answered so, and the replay goes on.
 //!
 //! What is promised of every list of commands, crashes at any moment and foreign writes into blank cells, is said in
 //! `laws.rt`, with specs/Headline.antt as its page.

@@ -32,7 +32,8 @@ use Rattle.ingest_engine.proofs.UnusedSlots.{IsOwn, plan_apart, settle_apart, un
 pub left_now : (s : DeviceState) (image : Image) → LeftSince s s.moment image → Extends image s.image
 left_now s image left = ⊎_elim
     (λ (b : Between s.sure s.image image). b.below)
-    (λ (past : (m : ℕ) × (s.moment ≤ m) × (m < s.moment) × Between (s.past m).sure (s.past m).image image). absurd (omega (arith, past.1, past.2)))
+    (λ (past : (m : ℕ) × (s.moment ≤ m) × (m < s.moment) × Between (s.past m).sure (s.past m).image image). absurd
+    (omega (arith, past.1, past.2)))
     left
 
 -- a state with phases, or one without
@@ -45,8 +46,10 @@ by_phases R Unused some none = none (λ between m put e. e, λ m put e. e)
 by_phases R (Abandoned start length) some none = none (λ between m put e. e, λ m put e. e)
 by_phases R (Done start length bytes journal) some none = none (λ between m put e. e, λ m put e. e)
 
-module _ (g : Layout) (n : ℕ) (old : DeviceState) (volume : IsVolume old.cells old.image g) (unused : IsUnused g old.image n) where
-  module _ {settled : DeviceState} {result : Result Ready Refusal} (s : Settles old settled result) (tells : IsTrue old.tells)
+module _ (g : Layout) (n : ℕ) (old : DeviceState) (volume : IsVolume old.cells old.image g)
+    (unused : IsUnused g old.image n) where
+  module _ {settled : DeviceState} {result : Result Ready Refusal} (s : Settles old settled result)
+      (tells : IsTrue old.tells)
       (still : IsStill old.foreign_writes settled.foreign_writes) where
     e : EndsByPhases old settled result
     e = s.writes tells
@@ -63,7 +66,8 @@ module _ (g : Layout) (n : ℕ) (old : DeviceState) (volume : IsVolume old.cells
         let ending : IsEnding old.cells old.image e.between e.slot e.state = e.ending some in
         let same : ending.layout ≡ g = one_layout {cells = old.cells} {more = old.cells} ending.layout g
         ending.volume (volume_on e.grows volume) in
-        settle_apart ending.layout e.between e.slot n (subst (λ (h : Layout). IsUnused h e.between n) (sym same) between_unused)
+        settle_apart ending.layout e.between e.slot n (subst (λ (h : Layout). IsUnused h e.between n)
+        (sym same) between_unused)
         e.state (subst (λ (image : Image). IsState ending.layout image e.between e.slot e.state) between_is ending.is)
         ending.journal k put planned own)
         (λ (none : ((between : Image) (m : ℕ) (put : Put) → IsFirstEnd between m e.state put → ⊥)
@@ -106,10 +110,13 @@ module _ (g : Layout) (n : ℕ) (old : DeviceState) (volume : IsVolume old.cells
         ((elapses_of h.looked).adds old.moment image (elapses_of h.settles.called).later left)
 
     -- a crash while a plan is put
-    module _ (law : CrashesLeaveWholeSlots) (id body : List ℕ) (p : Plan) (new : DeviceState) (layout : r.volume.geometry ≡ g)
-        (is_layout : IsLayout g) (suits : Suits g p) (plans : PlansDocument p id body) (puts : PutsPlan r.horizon p looked new)
+    module _ (law : CrashesLeaveWholeSlots) (id body : List ℕ) (p : Plan) (new : DeviceState)
+        (layout : r.volume.geometry ≡ g)
+        (is_layout : IsLayout g) (suits : Suits g p) (plans : PlansDocument p id body)
+        (puts : PutsPlan r.horizon p looked new)
         (alone : IsStill looked.foreign_writes new.foreign_writes) where
-      its_own : (image : Image) → LeavesPhases (ingest_phases r.horizon p) INGEST_PHASES looked new image → r.horizon ≡ n
+      its_own : (image : Image) → LeavesPhases (ingest_phases r.horizon p) INGEST_PHASES looked new image
+          → r.horizon ≡ n
           → IsWholeOrUncommitted g n id body image
       its_own image leaves here = law g n p id body image plans (record {
         old = looked;
@@ -119,10 +126,12 @@ module _ (g : Layout) (n : ℕ) (old : DeviceState) (volume : IsVolume old.cells
         alone = alone;
       })
 
-      elsewhere : (image : Image) → LeavesPhases (ingest_phases r.horizon p) INGEST_PHASES looked new image → r.horizon ≢ n
+      elsewhere : (image : Image) → LeavesPhases (ingest_phases r.horizon p) INGEST_PHASES looked new image
+          → r.horizon ≢ n
           → IsWholeOrUncommitted g n id body image
       elsewhere image leaves apart =
-          unused_whole (unused_after n (leaves.only alone) (plan_apart g p r.horizon n suits unused.slot apart (leaves.phase + 1)) looked_unused)
+          unused_whole (unused_after n (leaves.only alone) (plan_apart g p r.horizon n suits unused.slot apart
+          (leaves.phase + 1)) looked_unused)
 
       same_or_not : (a b : ℕ) → (a ≡ b) ⊎ (a ≢ b)
       same_or_not a b = ⊎_elim inl (λ (differs : a ≢ b). inr differs) (decide a b)
@@ -144,8 +153,10 @@ pub ready_layout : (old looked : DeviceState) (r : Ready) (g : Layout) → HasSe
 ready_layout old looked r g h tells volume =
     let ready = h.settles.ends.1 tells in
     let later : IsVolume h.settled.cells h.settled.image g =
-    subst (λ (cells : ℕ). IsVolume cells h.settled.image g) (sym h.settles.called.cells) (volume_on h.settles.called.image volume) in
-    let same : r.volume.geometry ≡ g = one_layout {cells = h.settled.cells} {more = h.settled.cells} r.volume.geometry g ready.volume later in
+    subst (λ (cells : ℕ). IsVolume cells h.settled.image g) (sym h.settles.called.cells)
+    (volume_on h.settles.called.image volume) in
+    let same : r.volume.geometry ≡ g =
+    one_layout {cells = h.settled.cells} {more = h.settled.cells} r.volume.geometry g ready.volume later in
     (same, subst IsLayout same h.settles.ends.0.layout)
 
 -- whatever an ingest has come to
@@ -153,14 +164,17 @@ pub crashed : (id : List ℕ) (stamp : Option ℕ) (body : List ℕ) (old new : 
     → Called old new → IngestComesTo id stamp body old new
     → CrashesLeaveSlots id body old new
 crashed id stamp body old new law called (IngestComesTo.nothing same) tells still g n volume unused image left =
-    unused_whole (unused_in (left_now old image (subst (λ (s : DeviceState). LeftSince s old.moment image) same left)) unused)
+    unused_whole (unused_in (left_now old image (subst (λ (s : DeviceState). LeftSince s old.moment image) same left))
+    unused)
 crashed id stamp body old new law called (IngestComesTo.settling refusal s) tells still g n volume unused image left =
     unused_whole (settling_left g n old volume unused s tells still image left)
 crashed id stamp body old new law called (IngestComesTo.settled r h) tells still g n volume unused image left =
     unused_whole (looking_left g n old volume unused h tells still image left)
-crashed id stamp body old new law called (IngestComesTo.put looked r p h device less plan puts) tells still g n volume unused image left =
+crashed id stamp body old new law called (IngestComesTo.put looked r p h device less plan puts) tells still g n volume
+    unused image left =
     let first : Called old looked = called_then h.settles.called h.looked in
     let layout = ready_layout old looked r g h tells volume in
-    putting_left g n old volume unused h tells (still_first first.foreign_writes puts.called.foreign_writes still) law id body p new
+    putting_left g n old volume unused h tells (still_first first.foreign_writes puts.called.foreign_writes still)
+    law id body p new
     layout.0 layout.1 (subst (λ (k : Layout). Suits k p) layout.0 plan.suits) plan.document puts
     (still_second first.foreign_writes puts.called.foreign_writes still) image left

@@ -129,7 +129,8 @@ module _ (id : List ℕ) (stamp : Option ℕ) (body : List ℕ) (old new : Devic
   module _ (law : CrashesLeaveWholeSlots) where
     -- an ingest that has come so far, and ends in this way
     far : (result : Result ℕ Refusal) → (IsOk result → PutUnfailed old new) → Called old new
-        → IngestComesTo id stamp body old new → IngestEnds id stamp body old new result → Ingests id stamp body old new result
+        → IngestComesTo id stamp body old new → IngestEnds id stamp body old new result
+        → Ingests id stamp body old new result
     far result unfailed called comes ends = record {
       called = called;
       unfailed = unfailed;
@@ -145,7 +146,8 @@ module _ (id : List ℕ) (stamp : Option ℕ) (body : List ℕ) (old new : Devic
 
     -- settling was ended
     pub unsettled : (refusal : Refusal) → Settles old new (Err refusal) → Ingests id stamp body old new (Err refusal)
-    unsettled refusal s = far (Err refusal) not_ok s.called (IngestComesTo.settling refusal s) (refused refusal s s.ends)
+    unsettled refusal s =
+        far (Err refusal) not_ok s.called (IngestComesTo.settling refusal s) (refused refusal s s.ends)
 
     -- the volume does not take such a stamp
     pub stampless : (r : Ready) (refusal : Refusal) → Settles old new (Ok r) → CheckStampEnds r stamp (Err refusal)
@@ -166,7 +168,8 @@ module _ (id : List ℕ) (stamp : Option ℕ) (body : List ℕ) (old new : Devic
       pub unplanned : (refusal : Refusal) → PlansFor r id stamp body settled new (Err refusal)
           → Ingests id stamp body old new (Err refusal)
       unplanned refusal plans = far (Err refusal) not_ok (called_then s.called plans.called)
-          (IngestComesTo.settled r (planned_behind s plans)) (unplanned_ends settled r s takes slot device refusal plans plans.ends)
+          (IngestComesTo.settled r (planned_behind s plans))
+          (unplanned_ends settled r s takes slot device refusal plans plans.ends)
 
       -- there was no room
       pub unroomed : (index : PlannedIndex) (need : ℕ) (refusal : Refusal) → need ≡ need_with id body index
@@ -174,10 +177,13 @@ module _ (id : List ℕ) (stamp : Option ℕ) (body : List ℕ) (old new : Devic
           → Ingests id stamp body old new (Err refusal)
       unroomed index need refusal same plans ends = far (Err refusal) not_ok (called_then s.called plans.called)
           (IngestComesTo.settled r (planned_behind s plans))
-          (no_room settled r s takes slot device index refusal plans (subst (λ (n : ℕ). RoomEnds r n (Err refusal)) same ends))
+          (no_room settled r s takes slot device index refusal plans
+          (subst (λ (n : ℕ). RoomEnds r n (Err refusal)) same ends))
 
-  module _ (law : CrashesLeaveWholeSlots) (looked : DeviceState) (r : Ready) (p : Plan) (layout : IsLayout r.volume.geometry)
-      (takes : IsStampFor r.volume.geometry stamp) (slot : r.horizon < r.volume.geometry.slots) (has : HasSettled old looked r) (device : IsDevice looked)
+  module _ (law : CrashesLeaveWholeSlots) (looked : DeviceState) (r : Ready) (p : Plan)
+      (layout : IsLayout r.volume.geometry)
+      (takes : IsStampFor r.volume.geometry stamp) (slot : r.horizon < r.volume.geometry.slots)
+      (has : HasSettled old looked r) (device : IsDevice looked)
       (plan : IsPlanFor r id stamp body has.settled looked p) (puts : PutsPlan r.horizon p looked new) where
     comes_to_put : IngestComesTo id stamp body old new
     comes_to_put = IngestComesTo.put looked r p has device slot plan puts
@@ -198,13 +204,15 @@ module _ (id : List ℕ) (stamp : Option ℕ) (body : List ℕ) (old new : Devic
 
     volume_at : IsTrue old.tells → IsVolume new.cells new.image r.volume.geometry
     volume_at tells =
-        subst (λ (cells : ℕ). IsVolume cells new.image r.volume.geometry) (sym (called_then has.looked puts.called).cells)
+        subst (λ (cells : ℕ). IsVolume cells new.image r.volume.geometry)
+        (sym (called_then has.looked puts.called).cells)
         (volume_on puts.called.image (volume_on has.looked.image (has.settles.ends.1 tells).volume))
 
     -- or it was
     pub put : (n : ℕ) → new.faults ≡ looked.faults
         → PutPlanEnds r.volume.geometry p r.horizon old looked new (Ok n) → Ingests id stamp body old new (Ok n)
     put n none ends = far law (Ok n)
-        (λ okay. record { ready = r; looked = looked; settled = has; unfailed = none }) called_all comes_to_put (λ tells.
+        (λ okay. record { ready = r; looked = looked; settled = has; unfailed = none }) called_all
+        comes_to_put (λ tells.
         is_ingested n layout has.settles.called tells (has.settles.ends.1 tells).volume puts.called plan (ends.1 tells)
         ends.0 (volume_at tells) (last_free r has slot tells))

@@ -26,7 +26,8 @@ whole_cells q = omega arith
 more_cells : (q b : ℕ) → cells_for (15 * q + b) ≡ q + cells_for b
 more_cells q b = omega arith
 
-module _ (a b : List ℕ) (xs ys : List (List ℕ)) (q : ℕ) (full : length a ≡ 15 * q) (first : AreCellsOf a xs) (second : AreCellsOf b ys) where
+module _ (a b : List ℕ) (xs ys : List (List ℕ)) (q : ℕ) (full : length a ≡ 15 * q) (first : AreCellsOf a xs)
+    (second : AreCellsOf b ys) where
   so_many : length xs ≡ q
   so_many = first.count ∙ ap cells_for full ∙ whole_cells q
 
@@ -81,9 +82,11 @@ pub stored_whole : (id body : List ℕ) (n q : ℕ) (old mid new : List (List �
 stored_whole id body n q old mid new none fits ends first second =
     let head : List ℕ = length id ∷ (id ++ take n body) in
     let bytes : head ++ drop n body ≡ stored_bytes id body =
-    ap (λ (l : List ℕ). length id ∷ l) (append_assoc id (take n body) (drop n body) ∙ ap (λ (l : List ℕ). id ++ l) (take-append-drop n body)) in
+    ap (λ (l : List ℕ). length id ∷ l) (append_assoc id (take n body) (drop n body)
+    ∙ ap (λ (l : List ℕ). id ++ l) (take-append-drop n body)) in
     let cells : new ≡ first.added ++ second.added =
-    second.whole ∙ ap (λ (l : List (List ℕ)). l ++ second.added) (first.whole ∙ ap (λ (l : List (List ℕ)). l ++ first.added) none) in
+    second.whole ∙ ap (λ (l : List (List ℕ)). l ++ second.added)
+    (first.whole ∙ ap (λ (l : List (List ℕ)). l ++ first.added) none) in
     let count : length head ≡ 1 + length id + n =
     omega (arith, length-append id (take n body), length-take-le n body fits) in
     subst (AreCellsOf (stored_bytes id body)) (sym cells) (⊎_elim
@@ -91,8 +94,10 @@ stored_whole id body n q old mid new none fits ends first second =
     subst (λ (l : List ℕ). AreCellsOf l (first.added ++ second.added)) bytes
     (joined head (drop n body) first.added second.added q (count ∙ full) first.cells second.cells))
     (λ (rest : drop n body ≡ []).
-    subst (λ (l : List ℕ). AreCellsOf l (first.added ++ second.added)) (sym (ap (λ (l : List ℕ). head ++ l) rest ∙ append-nil head) ∙ bytes)
-    (first_alone head first.added second.added first.cells (subst (λ (l : List ℕ). AreCellsOf l second.added) rest second.cells)))
+    subst (λ (l : List ℕ). AreCellsOf l (first.added ++ second.added))
+    (sym (ap (λ (l : List ℕ). head ++ l) rest ∙ append-nil head) ∙ bytes)
+    (first_alone head first.added second.added first.cells
+    (subst (λ (l : List ℕ). AreCellsOf l second.added) rest second.cells)))
     ends)
 
 -- how many stored bytes there are

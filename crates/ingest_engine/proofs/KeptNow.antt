@@ -48,7 +48,8 @@ passed_down_on : (g : Layout) {old new : Image} (id : List ℕ) (level : Level) 
 passed_down_on g id level None e passed = passed_to_on e passed
 passed_down_on g id level (Some child) e passed = (passed_to_on e passed.0, passed_on e passed.1)
 
-module _ {id : List ℕ} {stamp : Option ℕ} {body : List ℕ} {old settled looked new : DeviceState} {r : Ready} {p : Plan} (n : ℕ)
+module _ {id : List ℕ} {stamp : Option ℕ} {body : List ℕ} {old settled looked new : DeviceState} {r : Ready}
+    {p : Plan} (n : ℕ)
     (layout : IsLayout r.volume.geometry) (first : Called old settled) (tells : IsTrue old.tells)
     (volume : IsVolume settled.cells settled.image r.volume.geometry) (later : Called looked new)
     (plan : IsPlanFor r id stamp body settled looked p)

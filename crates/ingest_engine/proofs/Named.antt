@@ -62,7 +62,8 @@ module _ {old new : DeviceState} (r : Ready) (has : HasSettled old new r) (tells
         (volume_2 r has tells) (is_horizon still) (is_edge still);
   }
 
-  module _ {stamp : Option ℕ} (takes : IsStampFor r.volume.geometry stamp) (slot : r.horizon < r.volume.geometry.slots) where
+  module _ {stamp : Option ℕ} (takes : IsStampFor r.volume.geometry stamp)
+      (slot : r.horizon < r.volume.geometry.slots) where
     -- and named, in its order
     pub named_on_way : {id body : List ℕ} (e : Evidence) → IsFoundInOrder r id stamp body has.settled new e
         → IsIngestEvidence id stamp body old new e
@@ -100,7 +101,8 @@ log_rule number (inr (inr (inl r))) = inl (inl (inr (inr r)))
 log_rule number (inr (inr (inr (inl r)))) = inl (inr (inr r))
 log_rule number (inr (inr (inr (inr r)))) = inr r
 
-module _ {id : List ℕ} {stamp : Option ℕ} {body : List ℕ} {old looked : DeviceState} {r : Ready} {p : Plan} (layout : IsLayout r.volume.geometry)
+module _ {id : List ℕ} {stamp : Option ℕ} {body : List ℕ} {old looked : DeviceState} {r : Ready} {p : Plan}
+    (layout : IsLayout r.volume.geometry)
     (takes : IsStampFor r.volume.geometry stamp) (slot : r.horizon < r.volume.geometry.slots)
     (has : HasSettled old looked r) (tells : IsTrue old.tells)
     (plan : IsPlanFor r id stamp body has.settled looked p)

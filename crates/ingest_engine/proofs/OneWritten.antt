@@ -31,7 +31,8 @@ changes_before {at} {value} {a} {b} {c} changes same cell = by_case (changes cel
     by_case (inl e) = inl (same cell ∙ e)
     by_case (inr h) = inr (h.0, h.1, same cell ∙ h.2)
 
-module _ {at : ℕ} {value : List ℕ} {old mid now : DeviceState} {looked : Result Unit Refusal} {written : Result Written Failed}
+module _ {at : ℕ} {value : List ℕ} {old mid now : DeviceState} {looked : Result Unit Refusal}
+    {written : Result Written Failed}
     (looks : Looks old mid looked) (writes : Writes at value mid now written) where
   pub wrote_called : Called old now
   wrote_called = called_then looks.called writes.called

@@ -16,12 +16,15 @@ use Rattle.plan_writer.specs.Planned.{PlansDocument, Suits, document_from, journ
 use Rattle.plan_writer.specs.declared.plan.Plan.{Plan}
 use Rattle.ingest_plan.specs.Planning.{IsPlanned}
 use Rattle.ingest_plan.specs.declared.plan.PlannedIndex.{PlannedIndex}
+use Rattle.recovery_engine.specs.declared.settling.Ready.{Ready}
+use Rattle.ingest_engine.specs.Indexing.{HasIndex}
+use Rattle.ingest_engine.specs.Ingesting.{IsPlanFor}
 use Rattle.ingest_engine.specs.StoredCells.{IsStoredAs}
 use Rattle.ingest_engine.specs.declared.document.StoredDocument.{StoredDocument}
 use Rattle.ingest_engine.proofs.JoinedCells.{stored_length}
 
 -- a stamp has 32 bits where its seconds have
-pub few_seconds : (stamp : Option ℕ) → unwrap_or stamp 0 < 2 ^ 32
+few_seconds : (stamp : Option ℕ) → unwrap_or stamp 0 < 2 ^ 32
     → (seconds : ℕ) → stamp ≡ Some seconds → seconds < 2 ^ 32
 few_seconds stamp few seconds given = omega (arith, few, ap (λ (s : Option ℕ). unwrap_or s 0) given)
 
@@ -106,11 +109,12 @@ module _ {g : Layout} {n edge : ℕ} {level : Level} {place : Open} {stamp : Opt
           fit = fit (target_of b.1 + 1) (suc m) less (omega (arith, at, rises));
         }
 
-module _ (p : Plan) (id body : List ℕ) (document : StoredDocument) (identifier : IsIdentifier id) (is_body : IsBody body)
+module _ (p : Plan) (id body : List ℕ) (document : StoredDocument) (identifier : IsIdentifier id)
+    (is_body : IsBody body)
     (stored : IsStoredAs id body document) (cells : p.document.now ≡ document.cells.items)
     (bytes : p.bytes ≡ document.bytes) (stamp : Option ℕ) (stamped : p.stamp ≡ stamp) where
   -- the plan is of this document
-  pub plans_document : PlansDocument p id body
+  plans_document : PlansDocument p id body
   plans_document = record {
     identifier = identifier;
     is_body = is_body;
@@ -122,12 +126,13 @@ module _ (p : Plan) (id body : List ℕ) (document : StoredDocument) (identifier
   count = ap length cells ∙ stored.cells.count ∙ sym (ap cells_for (bytes ∙ stored.bytes))
 
   -- and suits a volume in which it and its index have room
-  pub plan_suits : {g : Layout} {n edge : ℕ} {level : Level} {place : Open} {index : PlannedIndex} {old new : DeviceState}
+  plan_suits : {g : Layout} {n edge : ℕ} {level : Level} {place : Open} {index : PlannedIndex} {old new : DeviceState}
       → IsPlanned g n edge level place stamp body index old new → IsLayout g → IsStampFor g stamp
       → ((seconds : ℕ) → stamp ≡ Some seconds → seconds < 2 ^ 32) → p.start ≡ edge
       → p.block_length ≡ index.block_length → p.journal.now ≡ index.journal.items → pool_at g ≤ edge → edge ≤ g.cells
       → length document.cells.items + length index.journal.items + index.block_length ≤ g.cells - edge → Suits g p
-  plan_suits {g} {n} {edge} {level} {place} {index} {old} {new} h layout takes few starts blocks journal low inside room =
+  plan_suits {g} {n} {edge} {level} {place} {index} {old} {new} h layout takes few starts blocks journal
+      low inside room =
       let size : p.bytes ≡ 1 + length id + length body = bytes ∙ stored.bytes ∙ stored_length id body in
       let long : length p.journal.now ≡ length index.journal.items = ap length journal in
       let wide : length p.document.now ≡ length document.cells.items = ap length cells in
@@ -146,8 +151,27 @@ module _ (p : Plan) (id body : List ℕ) (document : StoredDocument) (identifier
         document = count;
         stamp = subst (IsStampFor g) (sym stamped) takes;
         stamp_fits = λ seconds given. few seconds (sym stamped ∙ given);
-        entries = subst (λ (below : ℕ). AreEntries (lists_at g) (laid (journal_from p) p.journal.now) (journal_from p) below
+        entries = subst (λ (below : ℕ). AreEntries (lists_at g) (laid (journal_from p) p.journal.now)
+            (journal_from p) below
             (length p.journal.now)) end
             (subst (λ (l : List (List ℕ)). AreEntries (lists_at g) (laid (journal_from p) l) (journal_from p)
             (edge + index.block_length) (length l)) (sym journal) rows);
       }
+
+  -- so the plan is the one for the document, its stamp and its index
+  pub is_plan_for : {r : Ready} {index : PlannedIndex} {settled looked : DeviceState}
+      → HasIndex r id stamp body index settled looked → IsLayout r.volume.geometry → IsStampFor r.volume.geometry stamp
+      → unwrap_or stamp 0 < 2 ^ 32 → p.start ≡ r.edge → p.block_length ≡ index.block_length
+      → p.journal.now ≡ index.journal.items → pool_at r.volume.geometry ≤ r.edge → r.edge ≤ r.volume.geometry.cells
+      → length document.cells.items + length index.journal.items + index.block_length ≤ r.volume.geometry.cells - r.edge
+      → IsPlanFor r id stamp body settled looked p
+  is_plan_for {index = index} has layout takes few starts blocks journal low inside room = record {
+    starts = starts;
+    suits = plan_suits has.planned layout takes (few_seconds stamp few) starts blocks journal low inside room;
+    document = plans_document;
+    stamped = stamped;
+    index = index;
+    has = has;
+    blocks = blocks;
+    journal = journal;
+  }

@@ -8,7 +8,8 @@ use Rattle.worm_device.specs.State.{DeviceState}
 use Rattle.identifier_lookup.specs.Walks.{HasIdentifierTrail, NoneHasTrail}
 
 -- what had a hash trail has it still
-pub has_trail_on : {g : Layout} {a b : DeviceState} {id : List ℕ} {m : ℕ} → Called a b → HasIdentifierTrail g a.cells a.image id m
+pub has_trail_on : {g : Layout} {a b : DeviceState} {id : List ℕ} {m : ℕ} → Called a b
+    → HasIdentifierTrail g a.cells a.image id m
     → HasIdentifierTrail g b.cells b.image id m
 has_trail_on {g} {a} {b} {id} {m} called h =
     subst (λ (cells : ℕ). HasIdentifierTrail g cells b.image id m) (sym called.cells)

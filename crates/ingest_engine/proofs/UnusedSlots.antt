@@ -33,12 +33,15 @@ pub unused_whole : {g : Layout} {n : ℕ} {id body : List ℕ} {image : Image} �
 unused_whole {g} {n} {id} {body} {image} u = record {
   state = Unused;
   is = u;
-  bytes = λ start reserved bytes journal c. absurd (none-some c.reserves.reserve.cell (sym u.reserve ∙ c.reserves.reserve.stands));
-  whole = λ start reserved bytes journal c. absurd (none-some c.reserves.reserve.cell (sym u.reserve ∙ c.reserves.reserve.stands));
+  bytes = λ start reserved bytes journal c. absurd (none-some c.reserves.reserve.cell
+      (sym u.reserve ∙ c.reserves.reserve.stands));
+  whole = λ start reserved bytes journal c. absurd (none-some c.reserves.reserve.cell
+      (sym u.reserve ∙ c.reserves.reserve.stands));
 }
 
 -- it was unused before, too
-pub unused_in : {g : Layout} {n : ℕ} {image later : Image} → Extends image later → IsUnused g later n → IsUnused g image n
+pub unused_in : {g : Layout} {n : ℕ} {image later : Image} → Extends image later → IsUnused g later n
+    → IsUnused g image n
 unused_in e u = record {
   slot = u.slot;
   reserve = blank_before e u.reserve;
@@ -121,13 +124,15 @@ module _ (g : Layout) (between : Image) (m n : ℕ) (unused : IsUnused g between
       other is.reserves.reserve (outcome_is m n put.at (ap (λ (p : Put). p.at) e) own)
   first_apart (Committed start reserved bytes journal) is entries put e own =
       let low : lists_at g ≤ put.at = subst (λ (i : ℕ). lists_at g ≤ i) (sym e.2.at)
-      (entries_from (lists_at g) between (journal_at start reserved journal) (document_at start reserved bytes journal) journal entries e.0 put.value e.1 e.2.stands) in
+      (entries_from (lists_at g) between (journal_at start reserved journal)
+      (document_at start reserved bytes journal) journal entries e.0 put.value e.1 e.2.stands) in
       beyond_slots g n put.at unused.slot low own
   first_apart Unused is journal put e own = e
   first_apart (Abandoned start reserved) is journal put e own = e
   first_apart (Done start reserved bytes journal) is entries put e own = e
 
-  last_apart : (state : SlotState) → IsState g between between m state → (put : Put) → IsLastEnd m state put → IsOwn n put.at → ⊥
+  last_apart : (state : SlotState) → IsState g between between m state → (put : Put) → IsLastEnd m state put
+      → IsOwn n put.at → ⊥
   last_apart (Committed start reserved bytes journal) is put e own =
       other is.commits.reserves.reserve (done_is m n put.at (ap (λ (p : Put). p.at) e) own)
   last_apart (Reserved start reserved) is put e own = e

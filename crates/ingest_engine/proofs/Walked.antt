@@ -119,7 +119,8 @@ module _ (r : Ready) (id : List ℕ) (entry mid new : DeviceState) (first : Call
     },
   )
 
-  pub path_since : (result : Result PathEnd Refusal) → SeeksPathEnd r id mid new result → SeeksPathEnd r id entry new result
+  pub path_since : (result : Result PathEnd Refusal) → SeeksPathEnd r id mid new result
+      → SeeksPathEnd r id entry new result
   path_since result path = record {
     called = called_then first path.called;
     quiet = quiet_then first path.called quiet path.quiet;
@@ -140,7 +141,8 @@ module _ (r : Ready) (id : List ℕ) (entry mid new : DeviceState) (first : Call
       why (Err refusal) h = absurd h
 
 -- the stamp is not past the others, or that could not be read
-pub not_past : (r : Ready) (id : List ℕ) (stamp : Option ℕ) (body : List ℕ) (entry new : DeviceState) (refusal : Refusal)
+pub not_past : (r : Ready) (id : List ℕ) (stamp : Option ℕ) (body : List ℕ) (entry new : DeviceState)
+    (refusal : Refusal)
     → LooksPast r stamp entry new (Err refusal) → PlansFor r id stamp body entry new (Err refusal)
 not_past r id stamp body entry new refusal looks =
     record { called = looks.called; quiet = looks.quiet; ends = why refusal looks.ends }
@@ -159,7 +161,8 @@ pub path_refused : (r : Ready) (id : List ℕ) (stamp : Option ℕ) (body : List
 path_refused r id stamp body entry new refusal past path =
     record { called = path.called; quiet = path.quiet; ends = why refusal path.ends }
   where
-    why : (refusal : Refusal) → PathLookEnds r id entry new (Err refusal) → PlanForEnds r id stamp body entry new (Err refusal)
+    why : (refusal : Refusal) → PathLookEnds r id entry new (Err refusal)
+        → PlanForEnds r id stamp body entry new (Err refusal)
     why (Duplicate n) h = (past, h)
     why PathFull h = (past, h)
     why DeviceFault h = h
@@ -217,7 +220,8 @@ module _ (r : Ready) (id : List ℕ) (stamp : Option ℕ) (body : List ℕ) (ent
               broken = λ still volume horizon edge. named.broken led
                   (still_second path.called.foreign_writes plans.called.foreign_writes still) volume horizon
                   (subst (λ (i : Image). IsLater r.volume.geometry i r.horizon stamp)
-                  (sym (same_image (quiet_then path.called plans.called path.quiet plans.quiet still))) (past tells)) edge;
+                  (sym (same_image (quiet_then path.called plans.called path.quiet plans.quiet still)))
+                  (past tells)) edge;
             },
           )
       why DeviceFault h = omega (arith, h, path.called.faults)

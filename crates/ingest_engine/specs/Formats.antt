@@ -62,8 +62,8 @@ FormatEnds g old new (Err (NotBlank at)) =
     × (IsTrue old.tells → IsStill old.foreign_writes new.foreign_writes → IsUnchanged old.image new.image)
 FormatEnds g old new (Err refusal) = ⊥
 
--- What it means that a device was formatted, or that this was ended. Where it is done the cells were read, and no call of
--- the device has failed.
+-- What it means that a device was formatted, or that this was ended. Where it is done the cells were read, and no call
+-- of the device has failed.
 pub record Formats (g : Layout) (old new : DeviceState) (result : Result Unit Refusal) : Type 0 where
   pub called : Called old new
   pub unfailed : IsOk result → new.faults ≡ old.faults

@@ -38,7 +38,8 @@ FindsSlot r id entry new n =
 
 -- The identifier's path was walked to its end, which is this place of this level's node, and then the device was only
 -- read.
-pub record HasWalked (r : Ready) (id : List ℕ) (place : Open) (level : Level) (entry walked new : DeviceState) : Type 0 where
+pub record HasWalked (r : Ready) (id : List ℕ) (place : Open) (level : Level)
+    (entry walked new : DeviceState) : Type 0 where
   pub called : Called entry walked
   pub path : WalksOn r id entry walked (walks.End place level)
   pub looked : Called walked new
@@ -95,8 +96,8 @@ pub record IsFoundOnWay (IsByRule : Evidence → Type 0) (r : Ready) (entry new 
         → IsHorizon r.volume.geometry new.image new.image r.horizon
         → IsEdge r.volume.geometry new.image new.image r.edge → IsBroken new.cells new.image e.rule e.cell
 
--- What was found in this order: where a stamp is given, the slots are looked at first, for theirs; and only where the stamp
--- that is given is past them, what is named on the path and in the lists comes.
+-- What was found in this order: where a stamp is given, the slots are looked at first, for theirs; and only where the
+-- stamp that is given is past them, what is named on the path and in the lists comes.
 abbrev pub IsFoundInOrder
     : Ready → List ℕ → Option ℕ → List ℕ → DeviceState → DeviceState → Evidence → Type 0
 IsFoundInOrder r id stamp body entry new e =
@@ -149,7 +150,8 @@ pub record LooksPast (r : Ready) (stamp : Option ℕ) (entry new : DeviceState) 
     pub quiet : IsStill entry.foreign_writes new.foreign_writes → IsUnchanged entry.image new.image
     pub ends : PastEnds r stamp entry new result
 
--- The index of the document is planned, with its bucket at the end of its identifier's path. Its stamp is past the others.
+-- The index of the document is planned, with its bucket at the end of its identifier's path. Its stamp is past the
+-- others.
 pub record HasIndex (r : Ready) (id : List ℕ) (stamp : Option ℕ) (body : List ℕ) (index : PlannedIndex)
     (entry new : DeviceState) : Type 0 where
   pub past : IsStampPast r stamp entry
@@ -159,8 +161,8 @@ pub record HasIndex (r : Ready) (id : List ℕ) (stamp : Option ℕ) (body : Lis
   pub ends : HasWalked r id place level entry walked new
   pub planned : IsPlanned r.volume.geometry r.horizon r.edge level place stamp body index walked new
 
--- The stamp is past the others, the path ends, and no document with the identifier is on it; and a list gets too many tags
--- of the body.
+-- The stamp is past the others, the path ends, and no document with the identifier is on it; and a list gets too many
+-- tags of the body.
 pub record HasTooMany (r : Ready) (id : List ℕ) (stamp : Option ℕ) (body : List ℕ) (list count : ℕ)
     (entry new : DeviceState) : Type 0 where
   pub past : IsStampPast r stamp entry

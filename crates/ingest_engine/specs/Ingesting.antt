@@ -52,7 +52,8 @@ pub data IngestComesTo (id : List ℕ) (stamp : Option ℕ) (body : List ℕ) (o
   settled : (r : Ready) → HasSettled old new r → IngestComesTo id stamp body old new
   -- a slot was free, the document and its index were planned, and the plan was put into that slot
   put : (looked : DeviceState) (r : Ready) (p : Plan) (h : HasSettled old looked r) → IsDevice looked
-      → r.horizon < r.volume.geometry.slots → IsPlanFor r id stamp body h.settled looked p → PutsPlan r.horizon p looked new
+      → r.horizon < r.volume.geometry.slots → IsPlanFor r id stamp body h.settled looked p
+      → PutsPlan r.horizon p looked new
       → IngestComesTo id stamp body old new
 
 -- the document in this slot
@@ -74,8 +75,8 @@ pub record TakesBlank (g : Layout) (n : ℕ) (old sure : Image) : Type 0 where
 -- The document stands now in slot n, which was unused, and is sure; each cell that the slot takes was blank. It is
 -- kept: its index leads to it, and so it does in each image that extends this one. Whatever documents were kept are
 -- kept still, with this one behind them, and all that stood is sure. The volume's last slot was free, and no document
--- to which an index led had the identifier. Where documents are stamped it has this stamp, for sure, which is past those of
--- the done slots below its own.
+-- to which an index led had the identifier. Where documents are stamped it has this stamp, for sure, which is past
+-- those of the done slots below its own.
 pub record IsIngested (id : List ℕ) (stamp : Option ℕ) (body : List ℕ) (n : ℕ) (old new : DeviceState) : Type 0 where
   pub layout : Layout
   pub volume : IsVolume new.cells new.image layout
@@ -118,8 +119,8 @@ RoomEnds r need (Err (Full needed free)) =
     (needed ≡ need) × (free ≡ r.volume.geometry.cells - r.edge) × (free < need)
 RoomEnds r need (Err refusal) = ⊥
 
--- The volume was settled, and then only looked at; it takes such a stamp, and had a free slot. So its last slot was free
--- before.
+-- The volume was settled, and then only looked at; it takes such a stamp, and had a free slot. So its last slot was
+-- free before.
 pub record HasFreeSlot (stamp : Option ℕ) (old new : DeviceState) (r : Ready) : Type 0 where
   pub settled : HasSettled old new r
   pub takes : IsStampFor r.volume.geometry stamp
@@ -214,8 +215,8 @@ pub record IsInTheWay (id : List ℕ) (stamp : Option ℕ) (body : List ℕ) (ol
 
 -- How tampering is named: while the volume was settled; in the way of the plan; or, where the volume was settled and
 -- had a free slot, and was only looked at, in the slots below the horizon, which are looked at for their stamps where a
--- stamp is given; or, once the stamp, if one is given, is past all others, on the path of the identifier, as this stands
--- at exit; or, once this path has come to its end, by a rule of planning.
+-- stamp is given; or, once the stamp, if one is given, is past all others, on the path of the identifier, as this
+-- stands at exit; or, once this path has come to its end, by a rule of planning.
 pub data IsIngestEvidence (id : List ℕ) (stamp : Option ℕ) (body : List ℕ) (old new : DeviceState)
     (e : Evidence) : Type 0 where
   by_settling : Settles old new (Err (Tampered e)) → IsFoundBroken IsSettlingRule old new e

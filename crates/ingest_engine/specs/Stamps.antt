@@ -30,7 +30,8 @@ IsStampUpTo None last = ⊤
 IsStampUpTo (Some first) None = ⊥
 IsStampUpTo (Some first) (Some last) = first ≤ last
 
--- each done slot from one on, and below n, has a stamp of at most so many seconds; where that is none, there is no such slot
+-- each done slot from one on, and below n, has a stamp of at most so many seconds; where that is none, there is no such
+-- slot
 abbrev pub AreUpTo : Layout → Image → ℕ → ℕ → Option ℕ → Type 0
 AreUpTo g image from n last =
     (m seconds : ℕ) → from ≤ m → m < n → IsDoneSlot g image m → HasStamp image m seconds
@@ -59,8 +60,8 @@ abbrev pub NamesSlot : ℕ → ViewState → Fault → Type 0
 NamesSlot n old faults.Failed = ⊤
 NamesSlot n old (faults.Tampered e) = IsTrue old.base.tells → IsInLogBelow n e
 
--- How reading the stamps of the done slots below n may end, and why. The greatest is told: one of them has it, and none had
--- a greater one.
+-- How reading the stamps of the done slots below n may end, and why. The greatest is told: one of them has it, and none
+-- had a greater one.
 abbrev pub GreatestStampEnds : Layout → ℕ → ViewState → ViewState → Result (Option ℕ) Fault → Type 0
 GreatestStampEnds g n old new (Ok last) =
     (new.base.faults ≡ old.base.faults)
@@ -72,7 +73,8 @@ pub record ReadsStamps (g : Layout) (n : ℕ) (old new : ViewState) (result : Re
   pub viewed : Viewed old new
   pub ends : GreatestStampEnds g n old new result
 
--- How reading those from one on, and below n, may end: what comes is the latest of them and of one that was known before.
+-- How reading those from one on, and below n, may end: what comes is the latest of them and of one that was known
+-- before.
 abbrev pub AddStampsEnds : Layout → ℕ → ℕ → Option ℕ → ViewState → ViewState → Result (Option ℕ) Fault → Type 0
 AddStampsEnds g from n greatest old new (Ok last) =
     (new.base.faults ≡ old.base.faults) × IsStampUpTo greatest last
@@ -81,7 +83,8 @@ AddStampsEnds g from n greatest old new (Ok last) =
 AddStampsEnds g from n greatest old new (Err fault) =
     NamesSlot n old fault × ((horizon edge : ℕ) → WalkFails g horizon edge old new fault)
 
-pub record AddsStamps (g : Layout) (from n : ℕ) (greatest : Option ℕ) (old new : ViewState) (result : Result (Option ℕ) Fault)
+pub record AddsStamps (g : Layout) (from n : ℕ) (greatest : Option ℕ) (old new : ViewState)
+    (result : Result (Option ℕ) Fault)
     : Type 0 where
   pub viewed : Viewed old new
   pub ends : AddStampsEnds g from n greatest old new result

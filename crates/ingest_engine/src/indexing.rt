@@ -25,8 +25,8 @@ pub struct PathEnd {
 /// # Errors
 ///
 /// `StampTooEarly` where a stamp is given that is not past those of the done slots; `Duplicate` with the slot that the
-/// path of the identifier leads to, `PathFull` where the path is full; `TooManyTerms`; `Tampered` where a cell on the way
-/// is out of place; `DeviceFault`; `NoMemory`.
+/// path of the identifier leads to, `PathFull` where the path is full; `TooManyTerms`; `Tampered` where a cell on the
+/// way is out of place; `DeviceFault`; `NoMemory`.
 pub fn plan_for<D: Device>(
     alloc: Global,
     device: &mut D,

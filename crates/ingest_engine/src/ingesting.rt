@@ -19,11 +19,11 @@ use worm_device::Device;
 /// # Errors
 ///
 /// `NoMemory`; `NotFormatted`, `NotAVolume` and `WrongSize` by cell 0; `StampNeeded` where documents are stamped and no
-/// stamp is given, `StampUnused` where they are not and one is; `SlotsFull` where the last slot is taken, whatever stands
-/// before it; `StampTooEarly` where the stamp is not past those of the done slots; `Duplicate` with the slot that the
-/// identifier's path leads to; `PathFull` where each of the path's 64 buckets is another's; `TooManyTerms` where the body
-/// gives a list more than 256 postings; `Full` where the document and its index need more cells than are free;
-/// `Tampered` where a cell on the way breaks a rule, or one that is to be written is taken; `DeviceFault`.
+/// stamp is given, `StampUnused` where they are not and one is; `SlotsFull` where the last slot is taken, whatever
+/// stands before it; `StampTooEarly` where the stamp is not past those of the done slots; `Duplicate` with the slot
+/// that the identifier's path leads to; `PathFull` where each of the path's 64 buckets is another's; `TooManyTerms`
+/// where the body gives a list more than 256 postings; `Full` where the document and its index need more cells than are
+/// free; `Tampered` where a cell on the way breaks a rule, or one that is to be written is taken; `DeviceFault`.
 pub fn ingest<D: Device>(
     alloc: Global,
     device: &mut D,

@@ -18,8 +18,8 @@ const ROW_SLOTS: u32 = 64;
 /// How many cells they have.
 const ROW_CELLS: usize = 4 * ROW_SLOTS as usize;
 
-/// That the stamp, if one is given, is past that of each done slot below the horizon. The slots are read from the greatest
-/// down, where a stamp is given alone.
+/// That the stamp, if one is given, is past that of each done slot below the horizon. The slots are read from the
+/// greatest down, where a stamp is given alone.
 ///
 /// # Errors
 ///
@@ -49,8 +49,8 @@ fn last_stamp<D: Device>(device: &mut D, ready: &Ready) -> Result<Option<u32>, F
     greatest_stamp(&mut Direct::new(device), &ready.volume, ready.horizon)
 }
 
-/// The greatest stamp of a done slot below this one, if there is one. The slots are read from the greatest down, so many at
-/// once as a row has room for.
+/// The greatest stamp of a done slot below this one, if there is one. The slots are read from the greatest down, so
+/// many at once as a row has room for.
 fn greatest_stamp<V: View>(view: &mut V, volume: &Volume, below: u32) -> Result<Option<u32>, Fault>
     requires below { below ≤ volume.now.geometry.slots }
     requires size { volume.now.geometry.cells ≤ (V.seen view.old).cells }
@@ -85,8 +85,8 @@ fn with_slots<V: View>(
     requires size { geometry.now.cells ≤ (V.seen view.old).cells }
     ensures { AddsStamps geometry.now first (first + count) greatest (V.seen view.old) (V.seen view.new) result }
 {
-    // Known of a layout once it is asked for: that the numbers of its slots have 32 bits, and that the last of these cells
-    // is one of the device, too.
+    // Known of a layout once it is asked for: that the numbers of its slots have 32 bits, and that the last of these
+    // cells is one of the device, too.
     let _slots = geometry.slots();
     let _last = geometry.spare_at(first + count - 1);
     let row = &mut room[..4 * count as usize];

@@ -17,7 +17,8 @@ module _ {g : Layout} {old new : Image} {p : Plan} (i : IsIngest g old new p) wh
   applied_low {cell} row =
       let c = applied_copies i row in
       let o = in_order i row.place c.below in
-      let same = one_copy new p.start p.reserved (length p.journal) row.place cell o.target row.copied o.copied c o.copies in
+      let same = one_copy new p.start p.reserved (length p.journal) row.place cell o.target row.copied
+      o.copied c o.copies in
       omega (arith, o.before_document, same.1)
 
   stored_high : {cell : ℕ} {value : List ℕ} → StoredRow p cell value
@@ -43,13 +44,17 @@ module _ {g : Layout} {old new : Image} {p : Plan} (i : IsIngest g old new p) wh
   apart : (one : Phase) (two : Phase) → order_of one < order_of two → (cell : ℕ) (v w : List ℕ)
       → Row p one cell v → Row p two cell w → ⊥
   apart Reserving Reserving less cell v w a b = omega arith
-  apart Reserving Storing less cell v w a b = not_stored b (λ far high. omega (arith, far, a.at, i.free, pool_from)) (λ at. omega (arith, at, a.at))
+  apart Reserving Storing less cell v w a b =
+      not_stored b (λ far high. omega (arith, far, a.at, i.free, pool_from)) (λ at. omega (arith, at, a.at))
   apart Reserving Committing less cell v w a b = omega (arith, a.at, b.at)
   apart Reserving Applying less cell v w a b = let far = applied_far i b in omega (arith, far, a.at, i.free)
   apart Reserving Finishing less cell v w a b = omega (arith, a.at, b.at)
-  apart Storing Committing less cell v w a b = not_stored a (λ far high. omega (arith, far, b.at, i.free, pool_from)) (λ at. omega (arith, at, b.at))
-  apart Storing Applying less cell v w a b = let low = applied_low b in let above = applied_far i b in not_stored a (λ far high. omega arith) (λ at. omega (arith, at, above, i.free))
-  apart Storing Finishing less cell v w a b = not_stored a (λ far high. omega (arith, far, b.at, i.free, pool_from)) (λ at. omega (arith, at, b.at))
+  apart Storing Committing less cell v w a b =
+      not_stored a (λ far high. omega (arith, far, b.at, i.free, pool_from)) (λ at. omega (arith, at, b.at))
+  apart Storing Applying less cell v w a b = let low = applied_low b in let above =
+      applied_far i b in not_stored a (λ far high. omega arith) (λ at. omega (arith, at, above, i.free))
+  apart Storing Finishing less cell v w a b =
+      not_stored a (λ far high. omega (arith, far, b.at, i.free, pool_from)) (λ at. omega (arith, at, b.at))
   apart Committing Applying less cell v w a b = let far = applied_far i b in omega (arith, far, a.at, i.free)
   apart Committing Finishing less cell v w a b = omega (arith, a.at, b.at)
   apart Applying Finishing less cell v w a b = let far = applied_far i a in omega (arith, far, b.at, i.free)
@@ -83,7 +88,8 @@ module _ {g : Layout} {old new : Image} {p : Plan} (i : IsIngest g old new p) wh
       (record {
         keeps = λ cell value is. ⊎_elim
             (λ was. i.rows.keeps.keeps cell value was)
-            (λ (h : (one : Phase) × (order_of one ≤ order_of phase) × Row p one cell value). i.rows.adds cell value (h.0, h.2))
+            (λ (h : (one : Phase) × (order_of one ≤ order_of phase) × Row p one cell value). i.rows.adds cell
+            value (h.0, h.2))
             (l.only cell value is);
       })
       (in_phases phase l)

@@ -29,30 +29,43 @@ pub data IsLogCell (n cell : ℕ) : Type 0 where
 -- the two images
 module _ {g : Layout} {old new : Image} {p : Plan} (i : IsIngest g old new p) where
   pub begins : ReserveRule g new p.slot
-  begins = i.after.met Rules.ReserveCells (reserve_at p.slot) (record { found = i.reserve.cell; stands = i.reserve.stands }) p.slot i.free refl
+  begins = i.after.met Rules.ReserveCells (reserve_at p.slot)
+      (record { found = i.reserve.cell; stands = i.reserve.stands }) p.slot i.free refl
 
   pub same_start : (p.start ≡ begins.start) × (p.reserved ≡ begins.length)
-  same_start = reserves _ _ _ _ (one_record_holds new (reserve_at p.slot) (Reserve p.start p.reserved) (Reserve begins.start begins.length) i.reserve begins.reserves.reserve)
+  same_start = reserves _ _ _ _ (one_record_holds new (reserve_at p.slot) (Reserve p.start p.reserved)
+      (Reserve begins.start begins.length) i.reserve begins.reserves.reserve)
 
   pub slot_reserves : Reserves g new p.slot p.start p.reserved
   slot_reserves = let r = begins.reserves in let same = same_start in
-      record { slot = i.free; reserve = i.reserve; from = omega (arith, r.from, same.0); to = omega (arith, r.to, same.0, same.1) }
+      record {
+        slot = i.free;
+        reserve = i.reserve;
+        from = omega (arith, r.from, same.0);
+        to = omega (arith, r.to, same.0, same.1);
+      }
 
   pub slot_commits : Commits g new p.slot p.start p.reserved (length (stored_of p)) (length p.journal)
   slot_commits =
-      let r : OutcomeRule g new p.slot = i.after.met Rules.OutcomeCells (outcome_at p.slot) (record { found = i.commit.cell; stands = i.commit.stands }) p.slot i.free refl in
+      let r : OutcomeRule g new p.slot = i.after.met Rules.OutcomeCells (outcome_at p.slot)
+      (record { found = i.commit.cell; stands = i.commit.stands }) p.slot i.free refl in
       record {
         reserves = slot_reserves;
         outcome = i.commit;
         fits = ⊎_elim
-            (λ h. absurd (no_abandon (length (stored_of p)) (length p.journal) (one_record_holds new (outcome_at p.slot) (Commit (length (stored_of p)) (length p.journal)) Abandon i.commit h)))
+            (λ h. absurd (no_abandon (length (stored_of p)) (length p.journal)
+            (one_record_holds new (outcome_at p.slot) (Commit (length (stored_of p)) (length p.journal))
+            Abandon i.commit h)))
             (λ h.
-            let same = commits _ _ _ _ (one_record_holds new (outcome_at p.slot) (Commit (length (stored_of p)) (length p.journal)) (Commit h.0 h.1) i.commit h.2) in
+            let same = commits _ _ _ _ (one_record_holds new (outcome_at p.slot)
+            (Commit (length (stored_of p)) (length p.journal)) (Commit h.0 h.1) i.commit h.2) in
             let fits : cells_for h.0 + h.1 ≤ p.reserved = h.3 p.start p.reserved i.reserve in
             subst (λ (b : ℕ). cells_for b + length p.journal ≤ p.reserved) (sym same.0) (omega (arith, same.1, fits)))
             r.outcome;
         stamped = λ version. ⊎_elim
-            (λ h. absurd (no_abandon (length (stored_of p)) (length p.journal) (one_record_holds new (outcome_at p.slot) (Commit (length (stored_of p)) (length p.journal)) Abandon i.commit h)))
+            (λ h. absurd (no_abandon (length (stored_of p)) (length p.journal)
+            (one_record_holds new (outcome_at p.slot) (Commit (length (stored_of p)) (length p.journal))
+            Abandon i.commit h)))
             (λ h. h.4 version)
             r.outcome;
       }
@@ -66,9 +79,14 @@ module _ {g : Layout} {old new : Image} {p : Plan} (i : IsIngest g old new p) wh
   pub in_order : (place : ℕ) → place < length p.journal
       → IsInOrder g new p.slot p.start p.reserved (length (stored_of p)) (length p.journal) place
   in_order place below =
-      let c : JournalRule g new (outcome_at p.slot) = i.after.met Rules.Journals (outcome_at p.slot) (record { found = i.commit.cell; stands = i.commit.stands }) in
-      let w : IsWritten new (journal_at p.start p.reserved (length p.journal) + place) = c.commit p.slot p.start p.reserved (length (stored_of p)) (length p.journal) place slot_stores below refl in
-      let r : JournalRule g new (journal_at p.start p.reserved (length p.journal) + place) = i.after.met Rules.Journals (journal_at p.start p.reserved (length p.journal) + place) w in
+      let c : JournalRule g new (outcome_at p.slot) = i.after.met Rules.Journals (outcome_at p.slot) (record {
+        found = i.commit.cell;
+        stands = i.commit.stands;
+      }) in
+      let w : IsWritten new (journal_at p.start p.reserved (length p.journal) + place) =
+      c.commit p.slot p.start p.reserved (length (stored_of p)) (length p.journal) place slot_stores below refl in
+      let r : JournalRule g new (journal_at p.start p.reserved (length p.journal) + place) =
+      i.after.met Rules.Journals (journal_at p.start p.reserved (length p.journal) + place) w in
       r.copy p.slot p.start p.reserved (length (stored_of p)) (length p.journal) place slot_stores below refl
 
   -- a cell that a journal cell names holds the same
@@ -77,8 +95,12 @@ module _ {g : Layout} {old new : Image} {p : Plan} (i : IsIngest g old new p) wh
       → new (journal_at p.start p.reserved (length p.journal) + place) ≡ Some value → new target ≡ Some value
   redone place target copied value c is =
       let r : RedoneRule g new (journal_at p.start p.reserved (length p.journal) + place) =
-      i.after.met Rules.Targets (journal_at p.start p.reserved (length p.journal) + place) (record { found = value; stands = is }) in
-      r.done p.slot p.start p.reserved (length (stored_of p)) (length p.journal) place target copied slot_done c refl ∙ is
+      i.after.met Rules.Targets (journal_at p.start p.reserved (length p.journal) + place) (record {
+        found = value;
+        stands = is;
+      }) in
+      r.done p.slot p.start p.reserved (length (stored_of p))
+      (length p.journal) place target copied slot_done c refl ∙ is
 
   -- what is applied is copied in the journal, and lies behind the log
   pub applied_copies : {cell : ℕ} {value : List ℕ} → (row : AppliedRow p cell value)
@@ -86,7 +108,8 @@ module _ {g : Layout} {old new : Image} {p : Plan} (i : IsIngest g old new p) wh
   applied_copies {cell} {value} row = record {
     below = slice_get_within p.journal row.place value row.entry;
     entry = value;
-    stands = i.rows.adds (journal_at p.start p.reserved (length p.journal) + row.place) value (Storing, inl (inr (record { place = row.place; entry = row.entry; at = refl })));
+    stands = i.rows.adds (journal_at p.start p.reserved (length p.journal) + row.place) value
+        (Storing, inl (inr (record { place = row.place; entry = row.entry; at = refl })));
     index = row.index;
     address = row.address;
     is = row.is;
@@ -96,7 +119,8 @@ module _ {g : Layout} {old new : Image} {p : Plan} (i : IsIngest g old new p) wh
   applied_far {cell} {value} row =
       let c = applied_copies row in
       let o = in_order row.place c.below in
-      let same = one_copy new p.start p.reserved (length p.journal) row.place cell o.target row.copied o.copied c o.copies in
+      let same = one_copy new p.start p.reserved (length p.journal) row.place cell o.target row.copied
+      o.copied c o.copies in
       omega (arith, behind_log o.index, same.1)
 
   -- what is stored lies in the slot's cells
@@ -109,7 +133,8 @@ module _ {g : Layout} {old new : Image} {p : Plan} (i : IsIngest g old new p) wh
   pub stored_to : {cell : ℕ} {value : List ℕ} → StoredRow p cell value → cell < p.start + p.reserved
   stored_to {cell} {value} row = ⊎_elim
       (λ (c : ContentRow p cell value). omega (arith, c.at, c.below, slot_commits.fits))
-      (λ (c : CopyRow p cell value). let below : c.place < length p.journal = slice_get_within p.journal c.place value c.entry in omega (arith, c.at, slot_commits.fits))
+      (λ (c : CopyRow p cell value). let below : c.place < length p.journal = slice_get_within p.journal c.place value
+      c.entry in omega (arith, c.at, slot_commits.fits))
       row
 
   -- the log changes in four cells
@@ -126,18 +151,21 @@ module _ {g : Layout} {old new : Image} {p : Plan} (i : IsIngest g old new p) wh
 
   pub log_of : (cell : ℕ) (value : List ℕ) → cell < lists_at g → new cell ≡ Some value
       → (old cell ≡ Some value) ⊎ IsLogCell p.slot cell
-  log_of cell value low is = ⊎_elim inl (λ (row : AnyRow p cell value). inr (log_row cell value low row.0 row.1)) (i.rows.only cell value is)
+  log_of cell value low is =
+      ⊎_elim inl (λ (row : AnyRow p cell value). inr (log_row cell value low row.0 row.1)) (i.rows.only cell value is)
 
   -- slot n was unused
   pub outcome_blank : old (outcome_at p.slot) ≡ None
   outcome_blank = ⊎_elim (λ none. none)
-      (λ h. let o : OutcomeRule g old p.slot = i.before.met Rules.OutcomeCells (outcome_at p.slot) (record { found = h.0; stands = h.1 }) p.slot i.free refl in
+      (λ h. let o : OutcomeRule g old p.slot = i.before.met Rules.OutcomeCells (outcome_at p.slot)
+      (record { found = h.0; stands = h.1 }) p.slot i.free refl in
       absurd (none-some _ (sym (i.horizon.free i.free) ∙ o.reserve.stands)))
       (look old (outcome_at p.slot))
 
   pub done_blank : old (done_at p.slot) ≡ None
   done_blank = ⊎_elim (λ none. none)
-      (λ h. let r : DoneRule old p.slot = i.before.met Rules.DoneCells (done_at p.slot) (record { found = h.0; stands = h.1 }) p.slot i.free refl in
+      (λ h. let r : DoneRule old p.slot = i.before.met Rules.DoneCells (done_at p.slot)
+      (record { found = h.0; stands = h.1 }) p.slot i.free refl in
       absurd (none-some _ (sym outcome_blank ∙ r.commit.stands)))
       (look old (done_at p.slot))
 
@@ -145,11 +173,17 @@ module _ {g : Layout} {old new : Image} {p : Plan} (i : IsIngest g old new p) wh
   pub next_horizon : IsHorizon g new new (p.slot + 1)
   next_horizon = record {
     most = omega (arith, i.free);
-    below = λ m is. let same : p.slot ≡ m = omega arith in subst (λ (k : ℕ). IsWritten new (reserve_at k)) same (record { found = i.reserve.cell; stands = i.reserve.stands });
+    below = λ m is.
+        let same : p.slot ≡ m = omega arith in
+        subst (λ (k : ℕ). IsWritten new (reserve_at k)) same (record {
+          found = i.reserve.cell;
+          stands = i.reserve.stands;
+        });
     free = λ less. ⊎_elim (λ none. none)
         (λ h. ⊎_elim
         (λ before.
-        let w = taken_below g old i.before (p.slot + 1) less (record { found = h.0; stands = before }) p.slot (omega arith) in
+        let w = taken_below g old i.before (p.slot + 1) less (record { found = h.0; stands = before }) p.slot
+        (omega arith) in
         absurd (none-some _ (sym (i.horizon.free i.free) ∙ w.stands)))
         (λ of. absurd (no_log of))
         (log_of (reserve_at (p.slot + 1)) h.0 (omega arith) h.1))
@@ -166,10 +200,26 @@ module _ {g : Layout} {old new : Image} {p : Plan} (i : IsIngest g old new p) wh
   pub begins_there : EndsBelow g old p.slot p.start
   begins_there = ⊎_elim
       (λ (z : (p.slot ≡ 0) × (begins.start ≡ pool_at g)). inl (z.0, (same_start).0 ∙ z.1))
-      (λ (w : (m : ℕ) × (from : ℕ) × (size : ℕ) × (p.slot ≡ m + 1) × Reserves g new m from size × (begins.start ≡ from + size)).
+      (λ (w : (m : ℕ) × (from : ℕ) × (size : ℕ) × (p.slot ≡ m + 1) × Reserves g new m from size
+      × (begins.start ≡ from + size)).
       let r = w.4 in
-      let stood : old (reserve_at w.0) ≡ Some r.reserve.cell = ⊎_elim (λ was. was) (λ of. absurd (no_log w.0 w.3 of)) (log_of (reserve_at w.0) r.reserve.cell (omega (arith, r.slot)) r.reserve.stands) in
-      inr (w.0, w.1, w.2, w.3, record { slot = r.slot; reserve = record { cell = r.reserve.cell; stands = stood; is = r.reserve.is }; from = r.from; to = r.to }, (same_start).0 ∙ w.5))
+      let stood : old (reserve_at w.0) ≡ Some r.reserve.cell = ⊎_elim (λ was. was) (λ of. absurd (no_log w.0 w.3 of))
+      (log_of (reserve_at w.0) r.reserve.cell (omega (arith, r.slot)) r.reserve.stands) in
+      inr (
+        w.0,
+        w.1,
+        w.2,
+        w.3,
+        record {
+          slot = r.slot;
+          reserve = record
+              { cell = r.reserve.cell; stands = stood; is = r.reserve.is };
+          from =
+              r.from;
+          to = r.to;
+        },
+        (same_start).0 ∙ w.5,
+      ))
       begins.begins
     where
       no_log : (m : ℕ) → p.slot ≡ m + 1 → IsLogCell p.slot (reserve_at m) → ⊥

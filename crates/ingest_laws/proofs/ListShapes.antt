@@ -13,18 +13,8 @@ use Rattle.volume_meaning.proofs.Extending.{holds_on}
 use Rattle.volume_meaning.proofs.Holding.{one_record_holds}
 use Rattle.volume_meaning.proofs.Fronts.{front_on}
 use Rattle.tamper_rules.proofs.GivenUp.{jumps, leads_further}
+use Rattle.tamper_rules.proofs.GoingOn.{entry_rises_on, in_order_goes_on}
 use Rattle.tamper_rules.proofs.Writing.{same_or_not}
-
-pub in_order_goes_on : {old new : Image} {block place : ℕ} → Extends old new → HoldsInOrder old block place
-    → HoldsInOrder new block place
-in_order_goes_on {old} {new} {block} {place} e h = record {
-  p = h.p;
-  holds = holds_on e h.holds;
-  rises = ⊎_elim inl
-      (λ (x : (before : ℕ) × (q : PostingFields) × (place ≡ before + 1) × Holds old (block + before) (posting_record q) × (q.key < h.p.key)).
-      inr (x.0, x.1, x.2, holds_on e x.3, x.4))
-      h.rises;
-}
 
 pub points_on : {old new : Image} {from to block level digit : ℕ} → Extends old new
     → PointsWell old from to block level digit → PointsWell new from to block level digit
@@ -64,7 +54,8 @@ pointer_in l s d = (omega arith, omega arith)
 
 -- where the cells of the list's blocks are the same
 module _ {old new : Image} {from to head : ℕ} (w : IsWellListed old from to head) (e : Extends old new)
-    (same : (block place : ℕ) → Leads old from to block head → place < 256 → new (block + place) ≡ old (block + place)) where
+    (same : (block place : ℕ) → Leads old from to block head → place < 256
+    → new (block + place) ≡ old (block + place)) where
   apart_back : {last block : ℕ} → Leads new from to last block → Leads old from to block head
       → Leads old from to last head
   apart_back (arrived block is) there = subst (λ (b : ℕ). Leads old from to b head) is there
@@ -80,9 +71,12 @@ module _ {old new : Image} {from to head : ℕ} (w : IsWellListed old from to he
     before = w.before;
     entries = λ block place b below is. let there = listed_back b in
         in_order_goes_on e (w.entries block place there below (written_back (same block place there (omega arith)) is));
-    blank = λ block place b low high. let there = listed_back b in same block place there high ∙ w.blank block place there low high;
+    blank = λ block place b low high.
+        let there = listed_back b in
+        same block place there high ∙ w.blank block place there low high;
     pointers = λ block level digit b l s d is. let there = listed_back b in
-        points_on e (w.pointers block level digit there l s d (written_back (same block (127 + 15 * level + digit) there (omega (arith, (pointer_in l s d).1))) is));
+        points_on e (w.pointers block level digit there l s d
+        (written_back (same block (127 + 15 * level + digit) there (omega (arith, (pointer_in l s d).1))) is));
     apart = λ a b x y. w.apart a b (listed_back x) (listed_back y);
   }
 
@@ -93,7 +87,8 @@ module _ {image : Image} {from to wider head : ℕ} (more : to ≤ wider) (w : I
   narrow (arrived block is) there = subst (λ (b : ℕ). Leads image from to b head) is there
   narrow (onwards block level digit target l s d jump f t rest) there =
       let p = w.pointers block level digit there l s d (record { found = jump.cell; stands = jump.stands }) in
-      let same : target ≡ p.target = jumps target p.target (one_record_holds image (pointer_at block level digit) (Jump target) (Jump p.target) jump p.jump) in
+      let same : target ≡ p.target = jumps target p.target
+      (one_record_holds image (pointer_at block level digit) (Jump target) (Jump p.target) jump p.jump) in
       narrow rest (leads_further there level digit target l s d jump f (omega (arith, same, p.inside_to)))
 
   pub back : {b : ℕ} → Leads image from wider b head → Leads image from to b head
@@ -130,17 +125,21 @@ same_cell {image} {from} {to} {head} {a} {b} {i} {j} w x y li lj is = ⊎_elim
     (w.apart a b x y)
 
 -- with one posting more
-module _ {old new : Image} {from to head block place : ℕ} {p : PostingFields} (w : IsWellListed old from to head) (b : Leads old from to block head) (below : place < 128)
+module _ {old new : Image} {from to head block place : ℕ} {p : PostingFields} (w : IsWellListed old from to head)
+    (b : Leads old from to block head) (below : place < 128)
     (a : AddsOneCell (block + place) old new) (holds : Holds new (block + place) (posting_record p))
-    (rises : (place ≡ 0) ⊎ ((before : ℕ) × (q : PostingFields) × (place ≡ before + 1) × Holds old (block + before) (posting_record q) × (q.key < p.key))) where
+    (rises : (place ≡ 0) ⊎ ((before : ℕ) × (q : PostingFields) × (place ≡ before + 1)
+    × Holds old (block + before) (posting_record q) × (q.key < p.key))) where
   far_cell : {other i : ℕ} → Leads old from to other head → 128 ≤ i → i < 256 → new (other + i) ≡ old (other + i)
-  far_cell {other} {i} there low high = a.others (other + i) (λ same. let h = same_cell w there b high (omega arith) same in omega (arith, h.1))
+  far_cell {other} {i} there low high =
+      a.others (other + i) (λ same. let h = same_cell w there b high (omega arith) same in omega (arith, h.1))
 
   entry_back : {last cur : ℕ} → Leads new from to last cur → Leads old from to cur head → Leads old from to last head
   entry_back (arrived cur is) there = subst (λ (k : ℕ). Leads old from to k head) is there
   entry_back (onwards cur level digit target l s d jump f t rest) there =
       entry_back rest (leads_further there level digit target l s d
-      (holds_back (far_cell there (omega (arith, (pointer_in l s d).0)) (omega (arith, (pointer_in l s d).1))) jump) f t)
+      (holds_back (far_cell there (omega (arith, (pointer_in l s d).0)) (omega (arith, (pointer_in l s d).1))) jump) f
+      t)
 
   pub entry_listed : {k : ℕ} → Leads new from to k head → Leads old from to k head
   entry_listed k = entry_back k (arrived head refl)
@@ -149,10 +148,7 @@ module _ {old new : Image} {from to head block place : ℕ} {p : PostingFields} 
   new_entry = record {
     p = p;
     holds = holds;
-    rises = ⊎_elim inl
-        (λ (x : (before : ℕ) × (q : PostingFields) × (place ≡ before + 1) × Holds old (block + before) (posting_record q) × (q.key < p.key)).
-        inr (x.0, x.1, x.2, holds_on (adds_extends a) x.3, x.4))
-        rises;
+    rises = entry_rises_on block (adds_extends a) rises;
   }
 
   pub well_with_entry : IsWellListed new from to head
@@ -160,10 +156,14 @@ module _ {old new : Image} {from to head block place : ℕ} {p : PostingFields} 
     before = w.before;
     entries = λ other i k less is. let there = entry_listed k in ⊎_elim
         (λ same. let h = same_cell w there b (omega arith) (omega arith) same in
-        subst (λ (x : ℕ). HoldsInOrder new x i) (sym h.0) (subst (λ (x : ℕ). HoldsInOrder new block x) (sym h.1) new_entry))
-        (λ differ. in_order_goes_on (adds_extends a) (w.entries other i there less (written_back (a.others (other + i) differ) is)))
+        subst (λ (x : ℕ). HoldsInOrder new x i) (sym h.0) (subst (λ (x : ℕ). HoldsInOrder new block x)
+        (sym h.1) new_entry))
+        (λ differ. in_order_goes_on (adds_extends a) (w.entries other i there less
+        (written_back (a.others (other + i) differ) is)))
         (same_or_not (other + i) (block + place));
-    blank = λ other i k low high. let there = entry_listed k in far_cell there (omega arith) high ∙ w.blank other i there low high;
+    blank = λ other i k low high.
+        let there = entry_listed k in
+        far_cell there (omega arith) high ∙ w.blank other i there low high;
     pointers = λ other level digit k l s d is. let there = entry_listed k in
         points_on (adds_extends a) (w.pointers other level digit there l s d
         (written_back (far_cell there (omega (arith, (pointer_in l s d).0)) (omega (arith, (pointer_in l s d).1))) is));
@@ -171,11 +171,14 @@ module _ {old new : Image} {from to head block place : ℕ} {p : PostingFields} 
   }
 
 -- with one pointer more
-module _ {old new : Image} {from to head block level digit target place : ℕ} {greatest some : PostingFields} (w : IsWellListed old from to head) (b : Leads old from to block head)
+module _ {old new : Image} {from to head block level digit target place : ℕ} {greatest some : PostingFields}
+    (w : IsWellListed old from to head) (b : Leads old from to block head)
     (levels : level < 8) (low : 1 ≤ digit) (high : digit ≤ 15)
-    (a : AddsOneCell (pointer_at block level digit) old new) (jump : Holds new (pointer_at block level digit) (Jump target))
+    (a : AddsOneCell (pointer_at block level digit) old new)
+    (jump : Holds new (pointer_at block level digit) (Jump target))
     (full : IsFull old block greatest) (inside_from : from ≤ target) (inside_to : target + 256 ≤ to)
-    (below : place < 128) (front : InFront old target place some) (span : InSpan greatest.key level digit some.key) where
+    (below : place < 128) (front : InFront old target place some)
+    (span : InSpan greatest.key level digit some.key) where
   pointer_place : 127 + 15 * level + digit < 256
   pointer_place = let h = pointer_in levels low high in omega (arith, h.1)
 
@@ -186,11 +189,13 @@ module _ {old new : Image} {from to head block level digit target place : ℕ} {
 
   low_place : {other i : ℕ} → Leads old from to other head → i < 128 → new (other + i) ≡ old (other + i)
   low_place {other} {i} there less = a.others (other + i)
-      (λ same. let h = same_cell w there b (omega arith) pointer_place same in let k = pointer_in levels low high in omega (arith, h.1, k.0))
+      (λ same. let h = same_cell w there b (omega arith) pointer_place same in let k = pointer_in levels low high in
+      omega (arith, h.1, k.0))
 
   last_place : {other i : ℕ} → Leads old from to other head → 248 ≤ i → i < 256 → new (other + i) ≡ old (other + i)
   last_place {other} {i} there least less = a.others (other + i)
-      (λ same. let h = same_cell w there b less pointer_place same in let k = pointer_in levels low high in omega (arith, h.1, k.1))
+      (λ same. let h = same_cell w there b less pointer_place same in let k = pointer_in levels low high in omega
+      (arith, h.1, k.1))
 
   -- where the target is one of the list's blocks
   module _ (listed : Leads old from to target head) where
@@ -198,9 +203,11 @@ module _ {old new : Image} {from to head block level digit target place : ℕ} {
     jump_back (arrived cur is) there = subst (λ (k : ℕ). Leads old from to k head) is there
     jump_back (onwards cur i j next l s d hop f t rest) there = ⊎_elim
         (λ same.
-        let is : next ≡ target = jumps next target (one_record_holds new (pointer_at block level digit) (Jump next) (Jump target) (subst (λ (c : ℕ). Holds new c (Jump next)) same hop) jump) in
+        let is : next ≡ target = jumps next target (one_record_holds new (pointer_at block level digit) (Jump next)
+        (Jump target) (subst (λ (c : ℕ). Holds new c (Jump next)) same hop) jump) in
         jump_back rest (subst (λ (k : ℕ). Leads old from to k head) (sym is) listed))
-        (λ differ. jump_back rest (leads_further there i j next l s d (holds_back (a.others (pointer_at cur i j) differ) hop) f t))
+        (λ differ. jump_back rest (leads_further there i j next l s d
+        (holds_back (a.others (pointer_at cur i j) differ) hop) f t))
         (same_or_not (pointer_at cur i j) (pointer_at block level digit))
 
     jump_listed : {k : ℕ} → Leads new from to k head → Leads old from to k head
@@ -215,20 +222,24 @@ module _ {old new : Image} {from to head block level digit target place : ℕ} {
     no_hop : {i j next : ℕ} → i < 8 → 1 ≤ j → j ≤ 15 → Holds new (pointer_at target i j) (Jump next) → ⊥
     no_hop {i} {j} l s d hop =
         let k = pointer_in l s d in
-        none-some _ (sym (fresh_cell {i = 127 + 15 * i + j} (omega (arith, k.1)) ∙ fresh.blank (127 + 15 * i + j) (omega (arith, k.0)) (omega (arith, k.1))) ∙ hop.stands)
+        none-some _ (sym (fresh_cell {i = 127 + 15 * i + j} (omega (arith, k.1))
+        ∙ fresh.blank (127 + 15 * i + j) (omega (arith, k.0)) (omega (arith, k.1))) ∙ hop.stands)
 
     at_fresh : {last cur : ℕ} → Leads new from to last cur → cur ≡ target → last ≡ target
     at_fresh (arrived cur is) same = sym is ∙ same
-    at_fresh (onwards cur i j next l s d hop f t rest) same = absurd (no_hop l s d (subst (λ (k : ℕ). Holds new (pointer_at k i j) (Jump next)) same hop))
+    at_fresh (onwards cur i j next l s d hop f t rest) same =
+        absurd (no_hop l s d (subst (λ (k : ℕ). Holds new (pointer_at k i j) (Jump next)) same hop))
 
     fresh_back : {last cur : ℕ} → Leads new from to last cur → Leads old from to cur head
         → Leads old from to last head ⊎ (last ≡ target)
     fresh_back (arrived cur is) there = inl (subst (λ (k : ℕ). Leads old from to k head) is there)
     fresh_back (onwards cur i j next l s d hop f t rest) there = ⊎_elim
         (λ same.
-        let is : next ≡ target = jumps next target (one_record_holds new (pointer_at block level digit) (Jump next) (Jump target) (subst (λ (c : ℕ). Holds new c (Jump next)) same hop) jump) in
+        let is : next ≡ target = jumps next target (one_record_holds new (pointer_at block level digit) (Jump next)
+        (Jump target) (subst (λ (c : ℕ). Holds new c (Jump next)) same hop) jump) in
         inr (at_fresh rest is))
-        (λ differ. fresh_back rest (leads_further there i j next l s d (holds_back (a.others (pointer_at cur i j) differ) hop) f t))
+        (λ differ. fresh_back rest (leads_further there i j next l s d
+        (holds_back (a.others (pointer_at cur i j) differ) hop) f t))
         (same_or_not (pointer_at cur i j) (pointer_at block level digit))
 
     fresh_listed : {k : ℕ} → Leads new from to k head → Leads old from to k head ⊎ (k ≡ target)
@@ -291,11 +302,13 @@ module _ {old new : Image} {from to head block level digit target place : ℕ} {
         subst (λ (x : ℕ). PointsWell new from to x i j) (sym h.0)
         (subst (λ (x : ℕ). PointsWell new from to block x j) (sym o.0)
         (subst (λ (x : ℕ). PointsWell new from to block level x) (sym o.1) well_pointer)))
-        (λ differ. points_on (adds_extends a) (w.pointers k i j there less s d (written_back (a.others (pointer_at k i j) differ) is)))
+        (λ differ. points_on (adds_extends a) (w.pointers k i j there less s d
+        (written_back (a.others (pointer_at k i j) differ) is)))
         (same_or_not (pointer_at k i j) (pointer_at block level digit)))
         (λ h.
         let p = pointer_in less s d in
-        let none : new (target + (127 + 15 * i + j)) ≡ None = fresh_cell h.1 (omega (arith, p.1)) ∙ (h.1).blank (127 + 15 * i + j) (omega (arith, p.0)) (omega (arith, p.1)) in
+        let none : new (target + (127 + 15 * i + j)) ≡ None = fresh_cell h.1 (omega (arith, p.1))
+        ∙ (h.1).blank (127 + 15 * i + j) (omega (arith, p.0)) (omega (arith, p.1)) in
         absurd (none-some _ (sym (subst (λ (x : ℕ). new (x + (127 + 15 * i + j)) ≡ None) (sym h.0) none) ∙ is.stands)))
         (all_listed l)
 
@@ -315,4 +328,10 @@ module _ {old new : Image} {from to head block level digit target place : ℕ} {
         (all_listed l)
 
     pub well_with_jump : IsWellListed new from to head
-    well_with_jump = record { before = w.before; entries = entries_on; blank = blank_on; pointers = pointers_on; apart = apart_on }
+    well_with_jump = record {
+      before = w.before;
+      entries = entries_on;
+      blank = blank_on;
+      pointers = pointers_on;
+      apart = apart_on;
+    }

@@ -30,7 +30,8 @@ held_same : {old new : Image} {at : ℕ} {r : RecordCell} → Holds old at r →
 held_same h k = h.stands ∙ ap Some (h.is.same ∙ sym k.is.same) ∙ sym k.stands
 
 -- what one cell adds is one image
-same_adds : {old one other : Image} {at : ℕ} {r : RecordCell} → AddsOneCell at old one → AddsOneCell at old other → Holds one at r
+same_adds : {old one other : Image} {at : ℕ} {r : RecordCell} → AddsOneCell at old one → AddsOneCell at old other
+    → Holds one at r
     → Holds other at r → one ≡ other
 same_adds {old} {one} {other} {at} a b h k = same_image (λ cell. ⊎_elim
     (λ (same : cell ≡ at). ap one same ∙ held_same h k ∙ ap other (sym same))
@@ -73,7 +74,8 @@ one_blank {image} {block} {a} {b} x y = ⊎_elim
 span_pointer : {image : Image} {block key level digit level' digit' : ℕ} {f f' : PostingFields} → IsFull image block f
     → IsFull image block f' → InSpan f.key level digit key → InSpan f'.key level' digit' key
     → pointer_at block level digit ≡ pointer_at block level' digit'
-span_pointer {key = key} {level = level} {digit = digit} {level' = level'} {digit' = digit'} {f = f} {f' = f'} full full'
+span_pointer {key = key} {level = level} {digit = digit} {level' = level'} {digit' = digit'} {f = f}
+    {f' = f'} full full'
     span span' =
     let keys : f.key ≡ f'.key = ap (λ (p : PostingFields). p.key) (one_place full full') in
     let spans : (level ≡ level') × (digit ≡ digit') = apart f'.key key level digit level' digit'
@@ -159,7 +161,8 @@ one_cost {old = old} (in_tail block pointer tail place walk ends tail_is room ad
     (in_block block' place' walk' room' adds' holds' to_is is') =
     let blocks : block' ≡ block = one_walk walk' walk (blank_stops room') (pointer_stops ends) in
     absurd (blank_full (subst (λ (b : ℕ). IsBlankEntry old b place') blocks room') ends.full)
-one_cost {p = p} {old = old} {new = new} (in_tail block pointer tail place walk ends tail_is room adds to is) new' to' cost'
+one_cost {p = p} {old = old} {new = new} (in_tail block pointer tail place walk ends tail_is room adds to is) new' to'
+    cost'
     (in_tail block' pointer' tail' place' walk' ends' tail_is' room' adds' to_is is') =
     let blocks : block ≡ block' = one_walk walk walk' (pointer_stops ends) (pointer_stops ends') in
     let pointers : pointer ≡ pointer' =
@@ -186,7 +189,8 @@ one_cost {old = old} (in_new_block block pointer tail walk ends tail_is full add
     (in_tail block' pointer' tail' place' walk' ends' tail_is' room' adds' to_is is') =
     let tails : tail' ≡ tail = one_tail tail_is' tail_is in
     absurd (not_both (subst (λ (b : ℕ). IsBlankEntry old b place') tails room') full)
-one_cost {p = p} {old = old} {new = new} {next = next} (in_new_block block pointer tail walk ends tail_is full adds to is)
+one_cost {p = p} {old = old} {new = new} {next = next} (in_new_block block pointer tail walk ends tail_is
+    full adds to is)
     new' to' cost' (in_new_block block' pointer' tail' walk' ends' tail_is' full' adds' to_is is') =
     let blocks : block ≡ block' = one_walk walk walk' (pointer_stops ends) (pointer_stops ends') in
     let pointers : pointer ≡ pointer' =
@@ -199,7 +203,8 @@ one_cost {p = p} {old = old} {new = new} {next = next} (in_new_block block point
 
 -- and a row of postings does
 one_row : {g : Layout} {new new' : Image} {to to' : ℕ} {rows : List ListedPosting} {old : Image} {next cost : ℕ}
-    → PostingsCost g new to rows old next cost → (cost' : ℕ) → PostingsCost g new' to' rows old next cost' → cost ≡ cost'
+    → PostingsCost g new to rows old next cost → (cost' : ℕ) → PostingsCost g new' to' rows old next cost'
+    → cost ≡ cost'
 one_row (none old next cost same to is) cost' (none _ _ _ same' to_is is') = is ∙ sym is'
 one_row {g} {new} {to = to} (one a rows old mid next then cost first rest c costs is) cost'
     (one _ _ _ mid' _ then' _ first' rest' c' costs' is') =
@@ -272,11 +277,16 @@ not_both_ends image s root node level node' level' path blank path' passed' chil
 one_bucket : {g : Layout} {image : Image} {id : List ℕ} {cost : ℕ} → BucketCosts g image id cost → (cost' : ℕ)
     → BucketCosts g image id cost' → cost ≡ cost'
 one_bucket (in_bucket level node path blank is) cost' (in_bucket level' node' path' blank' is') = is ∙ sym is'
-one_bucket {g} {image} {id} (in_bucket level node path blank is) cost' (in_new_node level' node' less path' passed child is') =
-    absurd (not_both_ends image (sought_in g.cells g id) (root_at g) node level node' level' path blank path' passed child)
-one_bucket {g} {image} {id} (in_new_node level node less path passed child is) cost' (in_bucket level' node' path' blank is') =
-    absurd (not_both_ends image (sought_in g.cells g id) (root_at g) node' level' node level path' blank path passed child)
-one_bucket (in_new_node level node less path passed child is) cost' (in_new_node level' node' less' path' passed' child' is') =
+one_bucket {g} {image} {id} (in_bucket level node path blank is) cost'
+    (in_new_node level' node' less path' passed child is') =
+    absurd (not_both_ends image (sought_in g.cells g id) (root_at g) node level node' level' path blank
+    path' passed child)
+one_bucket {g} {image} {id} (in_new_node level node less path passed child is) cost'
+    (in_bucket level' node' path' blank is') =
+    absurd (not_both_ends image (sought_in g.cells g id) (root_at g) node' level' node level path' blank
+    path passed child)
+one_bucket (in_new_node level node less path passed child is) cost'
+    (in_new_node level' node' less' path' passed' child' is') =
     is ∙ sym is'
 
 pub need_one : NeedIsOne

@@ -35,13 +35,18 @@ pub same_way : {g : Layout} {image : Image} {to : ℕ} {d e : List ℕ} → IsWe
     → AreBytes e → {v node : ℕ} → IsOnPath g image d v node
     → (k : ℕ) → k < v → (w other : ℕ) → w ≡ v → other ≡ node → IsOnPath g image e w other → nibble d k ≡ nibble e k
 same_way r a b (Nodes.IsOnPath.root v node is at) k below w other same here way = absurd (omega arith)
-same_way {g} {image} r a b (Nodes.IsOnPath.under v node u above is rest less child from to) k below w other same here (Nodes.IsOnPath.root _ _ is' at') = absurd (omega arith)
-same_way {g} {image} {d = d} {e = e} r a b (Nodes.IsOnPath.under v node u above is rest less child from to) k below w other same here (Nodes.IsOnPath.under _ _ j behind is' rest' less' child' from' to') =
-    let h = r.once u above (nibble d u) j behind (nibble e j) node (on_node a rest) (nibble_low d a u) (on_node b rest') (nibble_low e b j) child
+same_way {g} {image} r a b (Nodes.IsOnPath.under v node u above is rest less child from to) k below w other same here
+    (Nodes.IsOnPath.root _ _ is' at') = absurd (omega arith)
+same_way {g} {image} {d = d} {e = e} r a b (Nodes.IsOnPath.under v node u above is rest less child from to) k below w
+    other same here (Nodes.IsOnPath.under _ _ j behind is' rest' less' child' from' to') =
+    let h = r.once u above (nibble d u) j behind (nibble e j) node (on_node a rest) (nibble_low d a u)
+    (on_node b rest') (nibble_low e b j) child
     (subst (λ (t : ℕ). Holds image (behind + 16 + nibble e j) (Child t)) here child') in
     let x = nibble_low d a u in
     let y = nibble_low e b j in
-    let there : above ≡ behind = ⊎_elim (λ s. s) (λ far. absurd (⊎_elim (λ low. omega arith) (λ high. omega arith) far)) (r.apart u above j behind (on_node a rest) (on_node b rest')) in
+    let there : above ≡ behind = ⊎_elim (λ s. s) (λ far. absurd
+    (⊎_elim (λ low. omega arith) (λ high. omega arith) far))
+    (r.apart u above j behind (on_node a rest) (on_node b rest')) in
     let level : j ≡ u = omega arith in
     ⊎_elim
     (λ last.
@@ -67,11 +72,13 @@ pub same_digest : (d e : List ℕ) → length d ≡ 32 → length e ≡ 32
 same_digest d e long also same = ext_get_or 0 d e (long ∙ sym also) (λ i below.
     let h = same (2 * i) (omega (arith, long, below)) in
     let l = same (2 * i + 1) (omega (arith, long, below)) in
-    half_bytes d i ∙ ap (λ (n : ℕ). 16 * n + nibble d (2 * i + 1)) h ∙ ap (λ (n : ℕ). 16 * nibble e (2 * i) + n) l ∙ sym (half_bytes e i))
+    half_bytes d i ∙ ap (λ (n : ℕ). 16 * n + nibble d (2 * i + 1)) h ∙ ap (λ (n : ℕ). 16 * nibble e (2 * i) + n) l
+    ∙ sym (half_bytes e i))
 
 pub last_bucket : (g : Layout) (image : Image) (id : List ℕ) (node : ℕ) → IsLayout g → IsSettled g image
     → IsOnPath g image (sha256 id) 63 node → IsWritten image (node + nibble (sha256 id) 63)
-    → (slot : ℕ) × (other : List ℕ) × (body : List ℕ) × Holds image (node + nibble (sha256 id) 63) (Bucket slot (fingerprint_of (sha256 other)))
+    → (slot : ℕ) × (other : List ℕ) × (body : List ℕ) × Holds image (node + nibble (sha256 id) 63)
+    (Bucket slot (fingerprint_of (sha256 other)))
     × Stands g.cells image slot other body × (sha256 other ≡ sha256 id)
 last_bucket g image id node layout s way w =
     let bytes = digest_is_bytes in
@@ -80,7 +87,8 @@ last_bucket g image id node layout s way w =
     let rooted : IsWellRooted g image at.0 = settled_rooted layout s at.1 in
     let n = on_node (bytes id) way in
     let r : BucketRule g image (node + nibble (sha256 id) 63) = s.met Rules.Buckets (node + nibble (sha256 id) 63) w in
-    let t : IsTrueBucket g image node (nibble (sha256 id) 63) = r 63 node (nibble (sha256 id) 63) n (nibble_low (sha256 id) (bytes id) 63) refl in
+    let t : IsTrueBucket g image node (nibble (sha256 id) 63) =
+    r 63 node (nibble (sha256 id) 63) n (nibble_low (sha256 id) (bytes id) 63) refl in
     let level : t.level ≡ 63 = one_level rooted (on_node (bytes t.id) t.on_path) 63 n in
     let bucket : Holds image (node + nibble (sha256 id) 63) (Bucket t.slot (fingerprint_of (sha256 t.id))) =
     subst (λ (f : List ℕ). Holds image (node + nibble (sha256 id) 63) (Bucket t.slot f)) t.same t.bucket in (
@@ -90,8 +98,10 @@ last_bucket g image id node layout s way w =
       bucket,
       t.stands,
       same_digest (sha256 t.id) (sha256 id) (length-sha256 t.id) (length-sha256 id) (λ k below. ⊎_elim
-          (λ last. ap (λ (i : ℕ). nibble (sha256 t.id) i) (last ∙ sym level) ∙ sym t.here ∙ ap (λ (i : ℕ). nibble (sha256 id) i) (sym last))
-          (λ other. sym (same_way rooted (bytes id) (bytes t.id) way k (lower k below other) t.level node level refl t.on_path))
+          (λ last. ap (λ (i : ℕ). nibble (sha256 t.id) i) (last ∙ sym level) ∙ sym t.here
+          ∙ ap (λ (i : ℕ). nibble (sha256 id) i) (sym last))
+          (λ other. sym (same_way rooted (bytes id) (bytes t.id) way k
+          (lower k below other) t.level node level refl t.on_path))
           (same_or_not k 63)),
     )
   where

@@ -22,7 +22,8 @@ module _ {g : Layout} {old new : Image} {p : Plan} (w : IsWellPlanned g old new 
   mine = record { slot = p.slot; id = p.id; body = p.body }
 
   old_below : {n : ℕ} {id body : List ℕ} → Stands g.cells old n id body → n < p.slot
-  old_below {n} t = below_horizon g old w.filled.before p.slot n w.filled.reserves.slot w.filled.horizon (stands_inside w.filled.volume t) (written t.done.commits.reserves)
+  old_below {n} t = below_horizon g old w.filled.before p.slot n w.filled.reserves.slot w.filled.horizon
+      (stands_inside w.filled.volume t) (written t.done.commits.reserves)
 
   pub adds_one : (ds : List Document) → AreDocuments g.cells old ds
       → AreDocuments g.cells new (ds ++ record { slot = p.slot; id = p.id; body = p.body } ∷ [])
@@ -34,13 +35,16 @@ module _ {g : Layout} {old new : Image} {p : Plan} (w : IsWellPlanned g old new 
         each = λ d. (
           λ t. ⊎_elim
               (λ same.
-              let e = one_document g.cells new p.slot d.id d.body p.id p.body (subst (λ (n : ℕ). Stands g.cells new n d.id d.body) same t.stands) stands in
-              subst (λ (x : Document). Contains (ds ++ last ∷ []) x) (sym (documents d last same e.0 e.1)) (Contains-append_right ds (last ∷ []) last (the_one last)))
+              let e = one_document g.cells new p.slot d.id d.body p.id p.body
+              (subst (λ (n : ℕ). Stands g.cells new n d.id d.body) same t.stands) stands in
+              subst (λ (x : Document). Contains (ds ++ last ∷ []) x) (sym (documents d last same e.0 e.1))
+              (Contains-append_right ds (last ∷ []) last (the_one last)))
               (λ other.
               let b = stands_back w.filled other t.stands in
               Contains-append_left ds (last ∷ []) d ((are.each d).0 (record {
                 stands = b;
-                taken = taken_below g old w.filled.before d.slot (stands_inside w.filled.volume b) (written b.done.commits.reserves);
+                taken = taken_below g old w.filled.before d.slot (stands_inside w.filled.volume b)
+                    (written b.done.commits.reserves);
               })))
               (same_or_not d.slot p.slot),
           λ c. ⊎_elim

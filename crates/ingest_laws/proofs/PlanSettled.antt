@@ -42,7 +42,10 @@ front_written {image} {block} (at_the_start j q is holds) i le =
     let same : j ≡ i = omega arith in
     subst (λ (k : ℕ). IsWritten image (block + k)) same (record { found = holds.cell; stands = holds.stands })
 front_written {image} {block} (behind j before q r is rest less holds) i le = ⊎_elim
-    (λ same. subst (λ (k : ℕ). IsWritten image (block + k)) (sym same) (record { found = holds.cell; stands = holds.stands }))
+    (λ same. subst (λ (k : ℕ). IsWritten image (block + k)) (sym same) (record {
+      found = holds.cell;
+      stands = holds.stands;
+    }))
     (λ other. front_written rest i (lower i j before le is other))
     (same_or_not i j)
   where
@@ -61,8 +64,10 @@ module _ {g : Layout} {old new : Image} {p : Plan} (w : IsWellPlanned g old new 
 
   rule_8 : (cell : ℕ) → IsWritten new cell → EntryRule g new cell
   rule_8 cell is = record {
-    entry = λ l block place b below at. (w.lists l b.list).entries block place (narrowed b) below (subst (λ (c : ℕ). IsWritten new c) at is);
-    blank = λ l block place b low high at. none-some _ (sym ((w.lists l b.list).blank block place (narrowed b) low high) ∙ ap new (sym at) ∙ is.stands);
+    entry = λ l block place b below at. (w.lists l b.list).entries block place (narrowed b) below
+        (subst (λ (c : ℕ). IsWritten new c) at is);
+    blank = λ l block place b low high at. none-some _ (sym
+        ((w.lists l b.list).blank block place (narrowed b) low high) ∙ ap new (sym at) ∙ is.stands);
   }
 
   mine_stands : Stands g.cells new p.slot p.id p.body
@@ -74,7 +79,11 @@ module _ {g : Layout} {old new : Image} {p : Plan} (w : IsWellPlanned g old new 
     volume = volume_on (keeps u) u.volume;
     slot = free u;
     done = mine u;
-    spells = λ k below. u.rows.adds _ _ (Storing, inl (inl (record { place = k; below = below; at = refl; is = refl })));
+    spells = λ k below. u.rows.adds _ _ (
+      Storing,
+      inl (inl
+          (record { place = k; below = below; at = refl; is = refl })),
+    );
     is_identifier = u.is_identifier;
     is_body = u.is_body;
   }
@@ -82,14 +91,21 @@ module _ {g : Layout} {old new : Image} {p : Plan} (w : IsWellPlanned g old new 
   pub mine_live : IsLive g new p.slot
   mine_live = record {
     slot = free u;
-    done = record { start = p.start; length = p.reserved; bytes = length (stored_of p); journal = length p.journal; done = mine u };
+    done = record {
+      start = p.start;
+      length = p.reserved;
+      bytes = length (stored_of p);
+      journal = length p.journal;
+      done = mine u;
+    };
     taken = λ m below. written_on (keeps u) (taken_to g old u.before p.slot u.horizon m below);
   }
 
   rule_9 : (cell : ℕ) → IsWritten new cell → PostingRule g new cell
   rule_9 cell is l block place q b below at h = ⊎_elim
       (λ none.
-      let k = w.postings l block place q b below (ap old (sym at) ∙ none) (subst (λ (c : ℕ). Holds new c (posting_record q)) at h) in
+      let k = w.postings l block place q b below (ap old (sym at) ∙ none)
+      (subst (λ (c : ℕ). Holds new c (posting_record q)) at h) in
       record {
         slot = p.slot;
         live = mine_live;
@@ -104,9 +120,23 @@ module _ {g : Layout} {old new : Image} {p : Plan} (w : IsWellPlanned g old new 
       (λ x. ⊎_elim
       (λ was.
       let r : PostingRule g old cell = u.before.met Rules.Postings cell (record { found = x.0; stands = x.1 }) in
-      let held : Holds old cell (posting_record q) = record { cell = h.cell; stands = x.1 ∙ sym (same x.0 x.1) ∙ refl; is = h.is } in
+      let held : Holds old cell (posting_record q) = record {
+        cell = h.cell;
+        stands = x.1 ∙ sym (same x.0 x.1) ∙ refl;
+        is = h.is;
+      } in
       let t : IsTruePosting g old l q = r l block place q was below at held in
-      record { slot = t.slot; stamp = t.stamp; is_stamp = stamp_on g t.slot t.stamp (keeps u) t.is_stamp; live = live_on (keeps u) (keeps u) t.live; id = t.id; body = t.body; stands = stands_on (keeps u) t.stands; postings = t.postings; is = t.is })
+      record {
+        slot = t.slot;
+        stamp = t.stamp;
+        is_stamp = stamp_on g t.slot t.stamp (keeps u) t.is_stamp;
+        live = live_on (keeps u) (keeps u) t.live;
+        id = t.id;
+        body = t.body;
+        stands = stands_on (keeps u) t.stands;
+        postings = t.postings;
+        is = t.is;
+      })
       (λ fresh. absurd (
       let inside : pool_at g ≤ cell = omega (arith, fresh, at, u.reserves.from) in
       let less = old_low u cell x.0 x.1 inside in omega arith))
@@ -119,7 +149,10 @@ module _ {g : Layout} {old new : Image} {p : Plan} (w : IsWellPlanned g old new 
   target_listed : {l block level digit target : ℕ} → IsBlockOf g new l block → level < 8 → 1 ≤ digit
       → digit ≤ 15 → Holds new (pointer_at block level digit) (Jump target)
       → pool_at g ≤ target → target + 256 ≤ g.cells → IsBlockOf g new l target
-  target_listed {l} {block} {level} {digit} {target} b ls d1 d2 jump from to = record { list = b.list; leads = leads_further b.leads level digit target ls d1 d2 jump from to }
+  target_listed {l} {block} {level} {digit} {target} b ls d1 d2 jump from to = record {
+    list = b.list;
+    leads = leads_further b.leads level digit target ls d1 d2 jump from to;
+  }
 
   rule_10 : (cell : ℕ) → IsWritten new cell → PointerRule g new cell
   rule_10 cell is l block level digit b ls d1 d2 at =
@@ -156,29 +189,43 @@ module _ {g : Layout} {old new : Image} {p : Plan} (w : IsWellPlanned g old new 
   rule_13 : (m : ℕ) (id body : List ℕ) → Stands g.cells new m id body → TrailRule g new m body
   rule_13 m id body t = ⊎_elim
       (λ same.
-      let e = one_document g.cells new p.slot id body p.id p.body (subst (λ (k : ℕ). Stands g.cells new k id body) same t) mine_stands in
+      let e = one_document g.cells new p.slot id body p.id p.body
+      (subst (λ (k : ℕ). Stands g.cells new k id body) same t) mine_stands in
       subst (λ (k : ℕ). TrailRule g new k body) (sym same) (subst (λ (b : List ℕ). TrailRule g new p.slot b) (sym e.1)
       (record { postings = w.has_postings; stamp = p.stamp; is_stamp = u.stamp; trails = w.trails })))
       (λ other.
       let b = stands_back u other t in
-      let r : TrailRule g old m body = u.before.met Rules.Trails (done_at m) (record { found = b.done.done.cell; stands = b.done.done.stands }) m id body refl b in
-      record { postings = r.postings; stamp = r.stamp; is_stamp = stamp_on g m r.stamp (keeps u) r.is_stamp; trails = λ l q below is. let k = r.trails l q below is in (k.0, trail_on (keeps u) k.1) })
+      let r : TrailRule g old m body = u.before.met Rules.Trails (done_at m)
+      (record { found = b.done.done.cell; stands = b.done.done.stands }) m id body refl b in
+      record {
+        postings = r.postings;
+        stamp = r.stamp;
+        is_stamp = stamp_on g m r.stamp (keeps u) r.is_stamp;
+        trails = λ l q below is. let k = r.trails l q below is in (k.0, trail_on (keeps u) k.1);
+      })
       (same_or_not m p.slot)
 
   rule_14 : (m : ℕ) (id body : List ℕ) → Stands g.cells new m id body → PathRule g new m id
   rule_14 m id body t = ⊎_elim
       (λ same.
-      let e = one_document g.cells new p.slot id body p.id p.body (subst (λ (k : ℕ). Stands g.cells new k id body) same t) mine_stands in
+      let e = one_document g.cells new p.slot id body p.id p.body
+      (subst (λ (k : ℕ). Stands g.cells new k id body) same t) mine_stands in
       subst (λ (k : ℕ). PathRule g new k id) (sym same) (subst (λ (i : List ℕ). PathRule g new p.slot i) (sym e.0)
-      (record { path = w.path; alone = λ k other less there. w.absent k other (stands_back u (λ is. omega arith) there) })))
+      (record {
+        path = w.path;
+        alone = λ k other less there. w.absent k other
+            (stands_back u (λ is. omega arith) there);
+      })))
       (λ differ.
       let b = stands_back u differ t in
-      let r : PathRule g old m id = u.before.met Rules.Paths (done_at m) (record { found = b.done.done.cell; stands = b.done.done.stands }) m id body refl b in
+      let r : PathRule g old m id = u.before.met Rules.Paths (done_at m)
+      (record { found = b.done.done.cell; stands = b.done.done.stands }) m id body refl b in
       record {
         path = hash_trail_on (keeps u) r.path;
         alone = λ k other less there. ⊎_elim
             (λ same.
-            let e = one_document g.cells new p.slot id other p.id p.body (subst (λ (j : ℕ). Stands g.cells new j id other) same there) mine_stands in
+            let e = one_document g.cells new p.slot id other p.id p.body
+            (subst (λ (j : ℕ). Stands g.cells new j id other) same there) mine_stands in
             w.absent m body (subst (λ (i : List ℕ). Stands g.cells old m i body) e.0 b))
             (λ apart. r.alone k other less (stands_back u apart there))
             (same_or_not k p.slot);
@@ -188,10 +235,12 @@ module _ {g : Layout} {old new : Image} {p : Plan} (w : IsWellPlanned g old new 
   -- where a node lies
   node_low : {v node : ℕ} → IsNode g new v node
       → (lists_at g ≤ node) × ((node + 32 ≤ pool_at g) ⊎ (node + 32 ≤ blocks_end p))
-  node_low n = ⊎_elim (λ is. (omega arith, inl (omega arith))) (λ h. (omega (arith, h.0), inr h.1)) (node_place w.tree n)
+  node_low n = ⊎_elim (λ is. (omega arith, inl (omega arith))) (λ h. (omega (arith, h.0), inr h.1))
+      (node_place w.tree n)
 
   node_high : {v node : ℕ} → IsNode g new v node → node + 32 ≤ blocks_end p
-  node_high n = ⊎_elim (λ low. let b = blocks_from u in let f = u.reserves.from in omega arith) (λ high. high) ((node_low n).1)
+  node_high n = ⊎_elim (λ low. let b = blocks_from u in let f = u.reserves.from in omega arith) (λ high. high)
+      ((node_low n).1)
 
   -- a written cell of a node that was written before is in an old node
   old_node : {v node i : ℕ} (value : List ℕ) → IsNode g new v node → i < 32 → old (node + i) ≡ Some value
@@ -221,7 +270,10 @@ module _ {g : Layout} {old new : Image} {p : Plan} (w : IsWellPlanned g old new 
       })
       (λ z.
       let o = old_node {i = x} z.0 n (omega arith) z.1 in
-      let r : BucketRule g old (node + x) = u.before.met Rules.Buckets (node + x) (record { found = z.0; stands = z.1 }) in
+      let r : BucketRule g old (node + x) = u.before.met Rules.Buckets (node + x) (record {
+        found = z.0;
+        stands = z.1;
+      }) in
       let t : IsTrueBucket g old node x = r v node x o xs refl in
       record {
         slot = t.slot;
@@ -257,11 +309,16 @@ module _ {g : Layout} {old new : Image} {p : Plan} (w : IsWellPlanned g old new 
 
   applied_row : (v node x : ℕ) (value : List ℕ) → IsNode g new v node → x < 16 → (phase : Phase)
       → Row p phase (node + 16 + x) value → AppliedRow p (node + 16 + x) value
-  applied_row v node x value n xs Reserving row = absurd (let low = (node_low n).0 in let f = free u in omega (arith, row.at))
-  applied_row v node x value n xs Storing row = absurd (let high = node_high n in ⊎_elim (λ stored. let from = stored_from u stored in omega arith) (λ s. let low = (node_low n).0 in let f = free u in omega (arith, s.row.at)) row)
-  applied_row v node x value n xs Committing row = absurd (let low = (node_low n).0 in let f = free u in omega (arith, row.at))
+  applied_row v node x value n xs Reserving row =
+      absurd (let low = (node_low n).0 in let f = free u in omega (arith, row.at))
+  applied_row v node x value n xs Storing row = absurd (let high = node_high n in ⊎_elim
+      (λ stored. let from = stored_from u stored in omega arith)
+      (λ s. let low = (node_low n).0 in let f = free u in omega (arith, s.row.at)) row)
+  applied_row v node x value n xs Committing row =
+      absurd (let low = (node_low n).0 in let f = free u in omega (arith, row.at))
   applied_row v node x value n xs Applying row = row
-  applied_row v node x value n xs Finishing row = absurd (let low = (node_low n).0 in let f = free u in omega (arith, row.at))
+  applied_row v node x value n xs Finishing row =
+      absurd (let low = (node_low n).0 in let f = free u in omega (arith, row.at))
 
   new_owner : (v node x : ℕ) → IsNode g new v node → x < 16 → (c : ChildWell g new (blocks_end p) v node x)
       → old (node + 16 + x) ≡ None → ChildOwner (node + 16 + x) c.target
@@ -279,7 +336,8 @@ module _ {g : Layout} {old new : Image} {p : Plan} (w : IsWellPlanned g old new 
         stores = record { commits = (mine u).commits; done = inr u.done };
         place = r.place;
         in_journal = k.below;
-        same = u.rows.adds _ _ (Storing, inl (inr (record { place = r.place; entry = r.entry; at = refl }))) ∙ sym c.child.stands;
+        same = u.rows.adds _ _ (Storing, inl (inr (record { place = r.place; entry = r.entry; at = refl })))
+            ∙ sym c.child.stands;
         in_blocks = w.new_children v node x c.target n xs none c.child;
         before_document = omega (arith, c.inside);
       })
@@ -289,10 +347,15 @@ module _ {g : Layout} {old new : Image} {p : Plan} (w : IsWellPlanned g old new 
       → (c : ChildWell g new (blocks_end p) v node x) → old (node + 16 + x) ≡ Some value
       → ChildOwner (node + 16 + x) c.target
   old_owner v node x value n xs c was =
-      let o = old_node {i = 16 + x} value n (omega arith) (ap old (let z : node + (16 + x) ≡ node + 16 + x = omega arith in z) ∙ was) in
-      let r : ChildRule g old (node + 16 + x) = u.before.met Rules.Children (node + 16 + x) (record { found = value; stands = was }) in
+      let o = old_node {i = 16 + x} value n (omega arith) (ap old
+      (let z : node + (16 + x) ≡ node + 16 + x = omega arith in z) ∙ was) in
+      let r : ChildRule g old (node + 16 + x) = u.before.met Rules.Children (node + 16 + x) (record {
+        found = value;
+        stands = was;
+      }) in
       let t : LeadsDownWell g old v node x = r v node x o xs refl in
-      let same : t.target ≡ c.target = children t.target c.target (one_record_holds new (node + 16 + x) (Child t.target) (Child c.target) (holds_on (keeps u) t.child) c.child) in
+      let same : t.target ≡ c.target = children t.target c.target
+      (one_record_holds new (node + 16 + x) (Child t.target) (Child c.target) (holds_on (keeps u) t.child) c.child) in
       record {
         owner = t.owner;
         start = t.start;
@@ -309,10 +372,12 @@ module _ {g : Layout} {old new : Image} {p : Plan} (w : IsWellPlanned g old new 
 
   rule_12 : (cell : ℕ) → IsWritten new cell → ChildRule g new cell
   rule_12 cell is v node x n xs at =
-      let c : ChildWell g new (blocks_end p) v node x = w.tree.children v node x n xs (subst (λ (c : ℕ). IsWritten new c) at is) in
+      let c : ChildWell g new (blocks_end p) v node x =
+      w.tree.children v node x n xs (subst (λ (c : ℕ). IsWritten new c) at is) in
       let to : c.target + 32 ≤ g.cells = omega (arith, c.inside, end_in_device) in
       let below : IsNode g new (v + 1) c.target = under (v + 1) c.target v node x refl n xs c.level c.child c.from to in
-      let o : ChildOwner (node + 16 + x) c.target = ⊎_elim (λ none. new_owner v node x n xs c none) (λ z. old_owner v node x z.0 n xs c z.1) (look old (node + 16 + x)) in
+      let o : ChildOwner (node + 16 + x) c.target = ⊎_elim (λ none. new_owner v node x n xs c none)
+      (λ z. old_owner v node x z.0 n xs c z.1) (look old (node + 16 + x)) in
       record {
         target = c.target;
         child = c.child;
@@ -332,7 +397,9 @@ module _ {g : Layout} {old new : Image} {p : Plan} (w : IsWellPlanned g old new 
         same = o.same;
         in_blocks = o.in_blocks;
         before_document = o.before_document;
-        once = λ k other y m ys lower h. let same = w.tree.once v node x k other y c.target n xs m ys c.child h in omega arith;
+        once = λ k other y m ys lower h.
+            let same = w.tree.once v node x k other y c.target n xs m ys c.child h in
+            omega arith;
         blocks = λ j other b. ⊎_elim inr inl (w.apart_nodes j other (v + 1) c.target b below);
         nodes = λ k other m. ⊎_elim (λ same. inl (sym same)) inr (w.tree.apart (v + 1) c.target k other below m);
       }

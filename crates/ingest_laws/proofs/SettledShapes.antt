@@ -21,16 +21,19 @@ use Rattle.tamper_rules.proofs.Images.{look}
 pub leads_wider : {image : Image} {from to more last block : ℕ} → to ≤ more → Leads image from to last block
     → Leads image from more last block
 leads_wider le (arrived block is) = arrived block is
-leads_wider le (onwards block level digit target l s d jump f t rest) = onwards block level digit target l s d jump f (omega arith) (leads_wider le rest)
+leads_wider le (onwards block level digit target l s d jump f t rest) =
+    onwards block level digit target l s d jump f (omega arith) (leads_wider le rest)
 
 -- the edge lies in the device
 pub edge_inside : {g : Layout} {image : Image} {at : ℕ} → IsLayout g → IsEdge g image image at → at ≤ g.cells
 edge_inside {g} {image} {at} l e = ⊎_elim
     (λ (z : (e.u ≡ 0) × (at ≡ pool_at g)). omega (arith, z.1, l.pool))
-    (λ (w : (m : ℕ) × (start : ℕ) × (length : ℕ) × (e.u ≡ m + 1) × Reserves g image m start length × (at ≡ start + length)). let r = w.4 in omega (arith, r.to, w.5))
+    (λ (w : (m : ℕ) × (start : ℕ) × (length : ℕ) × (e.u ≡ m + 1) × Reserves g image m start length
+    × (at ≡ start + length)). let r = w.4 in omega (arith, r.to, w.5))
     e.ends
 
-module _ {g : Layout} {image : Image} {at l : ℕ} (layout : IsLayout g) (s : IsSettled g image) (e : IsEdge g image image at) (list : l < all_lists g) where
+module _ {g : Layout} {image : Image} {at l : ℕ} (layout : IsLayout g) (s : IsSettled g image)
+    (e : IsEdge g image image at) (list : l < all_lists g) where
   block_of : {block : ℕ} → Leads image (pool_at g) at block (list_at g l) → IsBlockOf g image l block
   block_of b = record { list = list; leads = leads_wider (edge_inside layout e) b }
 
@@ -50,7 +53,10 @@ module _ {g : Layout} {image : Image} {at l : ℕ} (layout : IsLayout g) (s : Is
       → (last ≡ cur) ⊎ LastHop last
   last_hop (arrived cur is) b = inl (sym is)
   last_hop {last} (onwards cur level digit target ls d1 d2 jump f t rest) b =
-      let next : IsBlockOf g image l target = record { list = list; leads = leads_further b.leads level digit target ls d1 d2 jump f t } in
+      let next : IsBlockOf g image l target = record {
+        list = list;
+        leads = leads_further b.leads level digit target ls d1 d2 jump f t;
+      } in
       ⊎_elim
       (λ same. inr (record {
         from = cur;
@@ -72,14 +78,20 @@ module _ {g : Layout} {image : Image} {at l : ℕ} (layout : IsLayout g) (s : Is
   rule_of : {block level digit : ℕ} {cell : List ℕ} → IsBlockOf g image l block → level < 8 → 1 ≤ digit
       → digit ≤ 15 → image (pointer_at block level digit) ≡ Some cell → LeadsWell g image l block level digit
   rule_of {block} {level} {digit} {cell} b ls d1 d2 is =
-      let r : PointerRule g image (pointer_at block level digit) = s.met Rules.Pointers (pointer_at block level digit) (record { found = cell; stands = is }) in
+      let r : PointerRule g image (pointer_at block level digit) =
+      s.met Rules.Pointers (pointer_at block level digit) (record {
+        found = cell;
+        stands = is;
+      }) in
       r l block level digit b ls d1 d2 refl
 
   far_apart : {a b : ℕ} → LastHop a → IsBlockOf g image l b → (a ≡ b) ⊎ AreApart a 256 b 256
   far_apart {a} {b} h other =
       let r : LeadsWell g image l h.from h.level h.digit = rule_of h.is h.levels h.low h.high h.jump.stands in
-      let same : a ≡ r.target = jumps a r.target (one_record_holds image (pointer_at h.from h.level h.digit) (Jump a) (Jump r.target) h.jump r.jump) in
-      ⊎_elim (λ x. inl (same ∙ sym x.0)) (λ far. inr (subst (λ (k : ℕ). AreApart k 256 b 256) (sym same) far)) (r.blocks l b other)
+      let same : a ≡ r.target = jumps a r.target (one_record_holds image (pointer_at h.from h.level h.digit) (Jump a)
+      (Jump r.target) h.jump r.jump) in
+      ⊎_elim (λ x. inl (same ∙ sym x.0)) (λ far. inr (subst (λ (k : ℕ). AreApart k 256 b 256) (sym same) far))
+      (r.blocks l b other)
 
   blocks_apart : {a b : ℕ} → IsBlockOf g image l a → IsBlockOf g image l b → (a ≡ b) ⊎ AreApart a 256 b 256
   blocks_apart {a} {b} x y = ⊎_elim
@@ -97,7 +109,10 @@ module _ {g : Layout} {image : Image} {at l : ℕ} (layout : IsLayout g) (s : Is
         let r : EntryRule g image (block + place) = s.met Rules.Entries (block + place) w in
         r.entry l block place (block_of b) below refl;
     blank = λ block place b low high. ⊎_elim (λ none. none)
-        (λ h. let r : EntryRule g image (block + place) = s.met Rules.Entries (block + place) (record { found = h.0; stands = h.1 }) in
+        (λ h. let r : EntryRule g image (block + place) = s.met Rules.Entries (block + place) (record {
+          found = h.0;
+          stands = h.1;
+        }) in
         absurd (r.blank l block place (block_of b) low high refl))
         (look image (block + place));
     pointers = λ block level digit b ls d1 d2 w. let r = rule_of (block_of b) ls d1 d2 w.stands in record {
@@ -118,7 +133,8 @@ module _ {g : Layout} {image : Image} {at l : ℕ} (layout : IsLayout g) (s : Is
     apart = λ a b x y. blocks_apart (block_of x) (block_of y);
   }
 
-module _ {g : Layout} {image : Image} {at : ℕ} (layout : IsLayout g) (s : IsSettled g image) (e : IsEdge g image image at) where
+module _ {g : Layout} {image : Image} {at : ℕ} (layout : IsLayout g) (s : IsSettled g image)
+    (e : IsEdge g image image at) where
   child_rule : {v node x : ℕ} → IsNode g image v node → x < 16 → IsWritten image (node + 16 + x)
       → LeadsDownWell g image v node x
   child_rule {v} {node} {x} n xs w =
@@ -131,22 +147,34 @@ module _ {g : Layout} {image : Image} {at : ℕ} (layout : IsLayout g) (s : IsSe
   nodes_apart (root v node is at) (under u other k above x is' rest xs less child from inside) = inr (inl (omega arith))
   nodes_apart {u = u} {other = other} (under v node k above x is rest xs less child from inside) m =
       let r = child_rule rest xs (record { found = child.cell; stands = child.stands }) in
-      let same : node ≡ r.target = children node r.target (one_record_holds image (above + 16 + x) (Child node) (Child r.target) child r.child) in
-      ⊎_elim (λ is. inl (same ∙ sym is)) (λ far. inr (subst (λ (c : ℕ). AreApart c 32 other 32) (sym same) far)) (r.nodes u other m)
+      let same : node ≡ r.target = children node r.target (one_record_holds image (above + 16 + x) (Child node)
+      (Child r.target) child r.child) in
+      ⊎_elim (λ is. inl (same ∙ sym is)) (λ far. inr (subst (λ (c : ℕ). AreApart c 32 other 32) (sym same) far))
+      (r.nodes u other m)
 
   one_parent : {v node x u other y target : ℕ} → IsNode g image v node → x < 16 → IsNode g image u other → y < 16
-      → Holds image (node + 16 + x) (Child target) → Holds image (other + 16 + y) (Child target) → node + 16 + x < other + 16 + y → ⊥
+      → Holds image (node + 16 + x) (Child target) → Holds image (other + 16 + y) (Child target)
+      → node + 16 + x < other + 16 + y → ⊥
   one_parent {v} {node} {x} {u} {other} {y} {target} n xs m ys h i less =
       let r = child_rule m ys (record { found = i.cell; stands = i.stands }) in
-      let same : target ≡ r.target = children target r.target (one_record_holds image (other + 16 + y) (Child target) (Child r.target) i r.child) in
+      let same : target ≡ r.target = children target r.target
+      (one_record_holds image (other + 16 + y) (Child target) (Child r.target) i r.child) in
       r.once v node x n xs less (subst (λ (t : ℕ). Holds image (node + 16 + x) (Child t)) same h)
 
   pub settled_rooted : IsWellRooted g image at
   settled_rooted = record {
     room = edge_inside layout e;
-    children = λ v node x n xs w. let r = child_rule n xs w in record { target = r.target; child = r.child; bucket = r.bucket; level = r.level; from = r.from; inside = r.edge at e };
+    children = λ v node x n xs w. let r = child_rule n xs w in record {
+      target = r.target;
+      child = r.child;
+      bucket = r.bucket;
+      level = r.level;
+      from = r.from;
+      inside = r.edge at e;
+    };
     once = λ v node x u other y target n xs m ys h i. ⊎_elim (λ same. same)
-        (λ differ. absurd (⊎_elim (λ less. one_parent n xs m ys h i less) (λ more. one_parent m ys n xs i h more) differ))
+        (λ differ. absurd (⊎_elim (λ less. one_parent n xs m ys h i less)
+        (λ more. one_parent m ys n xs i h more) differ))
         (cases_order (node + 16 + x) (other + 16 + y));
     apart = λ v node u other n m. nodes_apart n m;
   }

@@ -8,6 +8,7 @@ use Rattle.volume_meaning.specs.Volumes.{Holds}
 use Rattle.volume_meaning.proofs.Holding.{one_record_holds}
 use Rattle.volume_meaning.specs.Blocks.{PostingFields, posting_record, Trail, here, on, arrived, pointer_at}
 use Rattle.volume_meaning.proofs.Stamps.{one}
+use Rattle.volume_meaning.proofs.Trails.{hop_within}
 use Rattle.volume_meaning.specs.Nodes.{IsBlockOf}
 use Rattle.volume_meaning.specs.Postings.{IsPostingOf}
 use Rattle.tamper_rules.specs.Rules
@@ -24,7 +25,8 @@ module _ {g : Layout} {image : Image} {at : ℕ} (s : IsSettled g image) (e : Is
       s.met Rules.Pointers (pointer_at block level digit) (record { found = jump.cell; stands = jump.stands }) in
       let t : LeadsWell g image l block level digit = r l block level digit b ls d1 d2 refl in
       let same : target ≡ t.target =
-      jumps target t.target (one_record_holds image (pointer_at block level digit) (Jump target) (Jump t.target) jump t.jump) in
+      jumps target t.target (one_record_holds image (pointer_at block level digit) (Jump target)
+      (Jump t.target) jump t.jump) in
       let less = t.edge at e in
       omega arith
 
@@ -38,23 +40,10 @@ module _ {g : Layout} {image : Image} {at : ℕ} (s : IsSettled g image) (e : Is
       let to = before_edge b level h.span.some h.span.digits h.jump in
       let next : IsBlockOf g image l target = record {
         list = b.list;
-        leads = leads_further b.leads h.level h.digit target level h.span.some h.span.digits h.jump h.inside_from h.inside_to;
+        leads = leads_further b.leads h.level h.digit target level h.span.some h.span.digits h.jump
+            h.inside_from h.inside_to;
       } in
-      on block target (record {
-        greatest = h.greatest;
-        full = h.full;
-        level = h.level;
-        digit = h.digit;
-        span = h.span;
-        jump = h.jump;
-        inside_from = h.inside_from;
-        inside_to = to;
-        place = h.place;
-        some = h.some;
-        in_front = h.in_front;
-        in_places = h.in_places;
-        in_span = h.in_span;
-      }) (narrow next rest)
+      on block target (hop_within (pool_at g) at h.inside_from to h) (narrow next rest)
 
   pub settled_trails : {l block place : ℕ} {p : PostingFields} → IsBlockOf g image l block → place < 128
       → Holds image (block + place) (posting_record p) → (cell : ℕ) × Trail image (pool_at g) at cell p (list_at g l)

@@ -14,7 +14,8 @@ to_end (here block place is below front) = (block, place, is, at_end block refl 
 to_end (on block target hop rest) = let e = to_end rest in (e.0, e.1, e.2, through block target hop e.3)
 
 -- and is the posting's trail
-pub of_end : {image : Image} {from to last place : ℕ} {p : PostingFields} {block : ℕ} → TrailTo image from to last place p block
+pub of_end : {image : Image} {from to last place : ℕ} {p : PostingFields} {block : ℕ}
+    → TrailTo image from to last place p block
     → Trail image from to (last + place) p block
 of_end {image} {place = place} {p = p} (at_end block same below front) = here block place (omega (arith, same)) below
     (subst (λ (b : ℕ). InFront image b place p) (sym same) front)
@@ -49,5 +50,6 @@ one_end {image} {place = place} {p = p} (at_end block is below front) last' plac
 one_end {image} {p = p} (through block target hop rest) last' place' q (at_end _ is below front) same =
     absurd (not_both p.key below (subst (λ (b : ℕ). InFront image b place' q) (sym is) front) (sym same) hop)
 one_end {image} {from} {to} {p = p} (through block target hop rest) last' place' q (through _ target' hop' rest') same =
-    let one : target ≡ target' = one_target hop (subst (λ (k : ℕ). Hop image from to block k target') (sym same) hop') in
+    let one : target ≡ target' =
+    one_target hop (subst (λ (k : ℕ). Hop image from to block k target') (sym same) hop') in
     one_end rest last' place' q (subst (λ (t : ℕ). TrailTo image from to last' place' q t) (sym one) rest') same

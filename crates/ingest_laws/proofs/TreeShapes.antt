@@ -17,7 +17,14 @@ use Rattle.tamper_rules.proofs.Writing.{same_or_not}
 
 pub child_on : {g : Layout} {old new : Image} {to more v node x : ℕ} → Extends old new → to ≤ more
     → ChildWell g old to v node x → ChildWell g new more v node x
-child_on e le c = record { target = c.target; child = holds_on e c.child; bucket = written_on e c.bucket; level = c.level; from = c.from; inside = omega (arith, c.inside) }
+child_on e le c = record {
+  target = c.target;
+  child = holds_on e c.child;
+  bucket = written_on e c.bucket;
+  level = c.level;
+  from = c.from;
+  inside = omega (arith, c.inside);
+}
 
 -- more room leaves the tree as it was
 pub rooted_wider : {g : Layout} {image : Image} {to wider : ℕ} → to ≤ wider → wider ≤ g.cells
@@ -35,7 +42,8 @@ pub node_place : {g : Layout} {image : Image} {to v node : ℕ} → IsWellRooted
 node_place w (root v node is at) = inl at
 node_place {g} {image} {to} w (under v node u above x is rest xs less child from inside) =
     let c = w.children u above x rest xs (record { found = child.cell; stands = child.stands }) in
-    let same : node ≡ c.target = children node c.target (one_record_holds image (above + 16 + x) (Child node) (Child c.target) child c.child) in
+    let same : node ≡ c.target =
+    children node c.target (one_record_holds image (above + 16 + x) (Child node) (Child c.target) child c.child) in
     inr (from, omega (arith, same, c.inside))
 
 -- a node is reached at one level
@@ -44,9 +52,11 @@ pub one_level : {g : Layout} {image : Image} {to : ℕ} → IsWellRooted g image
 one_level w (root u node is at) v (root _ _ is' at') = is ∙ sym is'
 one_level w (root u node is at) v (under _ _ k above x is' rest xs less child from inside) = absurd (omega arith)
 one_level w (under u node k above x is rest xs less child from inside) v (root _ _ is' at') = absurd (omega arith)
-one_level {g} {image} w (under u node k above x is rest xs less child from inside) v (under _ _ j other y is' rest' ys less' child' from' inside') =
+one_level {g} {image} w (under u node k above x is rest xs less child from inside) v
+    (under _ _ j other y is' rest' ys less' child' from' inside') =
     let same = w.once k above x j other y node rest xs rest' ys child child' in
-    let there : above ≡ other = ⊎_elim (λ s. s) (λ far. absurd (⊎_elim (λ low. omega arith) (λ high. omega arith) far)) (w.apart k above j other rest rest') in
+    let there : above ≡ other = ⊎_elim (λ s. s) (λ far. absurd (⊎_elim (λ low. omega arith) (λ high. omega arith) far))
+    (w.apart k above j other rest rest') in
     let level : k ≡ j = one_level w rest j (subst (λ (n : ℕ). IsNode g image j n) (sym there) rest') in
     omega arith
 
@@ -61,14 +71,18 @@ module _ {g : Layout} {old new : Image} {to : ℕ} (w : IsWellRooted g old to) (
   pub rooted_apart : IsWellRooted g new to
   rooted_apart = record {
     room = w.room;
-    children = λ v node x n xs is. let there = node_back n in child_on e (omega arith) (w.children v node x there xs (written_back (same v node x there xs) is));
+    children = λ v node x n xs is. let there = node_back n in child_on e (omega arith)
+        (w.children v node x there xs (written_back (same v node x there xs) is));
     once = λ v node x u other y target n xs m ys h k. let a = node_back n in let b = node_back m in
-        w.once v node x u other y target a xs b ys (holds_back (same v node x a xs) h) (holds_back (same u other y b ys) k);
+        w.once v node x u other y target a xs b ys (holds_back (same v node x a xs) h)
+        (holds_back (same u other y b ys) k);
     apart = λ v node u other n m. w.apart v node u other (node_back n) (node_back m);
   }
 
-module _ {g : Layout} {old new : Image} {to v node x target : ℕ} (w : IsWellRooted g old to) (n : IsNode g old v node) (xs : x < 16) (less : v < 63)
-    (a : AddsOneCell (node + 16 + x) old new) (child : Holds new (node + 16 + x) (Child target)) (bucket : IsWritten old (node + x))
+module _ {g : Layout} {old new : Image} {to v node x target : ℕ} (w : IsWellRooted g old to) (n : IsNode g old v node)
+    (xs : x < 16) (less : v < 63)
+    (a : AddsOneCell (node + 16 + x) old new) (child : Holds new (node + 16 + x) (Child target))
+    (bucket : IsWritten old (node + x))
     (fresh : to ≤ target) (pool : pool_at g ≤ to) (inside : target + 32 ≤ g.cells)
     (blank : (y : ℕ) → y < 16 → old (target + 16 + y) ≡ None) where
   e : Extends old new
@@ -84,10 +98,13 @@ module _ {g : Layout} {old new : Image} {to v node x target : ℕ} (w : IsWellRo
   node_of (root u other is at) = inl (root u other is at)
   node_of (under u other k above y is rest ys low hop from into) = ⊎_elim
       (λ there. ⊎_elim
-      (λ same. inr (children other target (one_record_holds new (node + 16 + x) (Child other) (Child target) (subst (λ (c : ℕ). Holds new c (Child other)) same hop) child)))
-      (λ differ. inl (under u other k above y is there ys low (holds_back (a.others (above + 16 + y) differ) hop) from into))
+      (λ same. inr (children other target (one_record_holds new (node + 16 + x) (Child other) (Child target)
+      (subst (λ (c : ℕ). Holds new c (Child other)) same hop) child)))
+      (λ differ. inl (under u other k above y is there ys low
+      (holds_back (a.others (above + 16 + y) differ) hop) from into))
       (same_or_not (above + 16 + y) (node + 16 + x)))
-      (λ same. absurd (none-some _ (sym (new_blank y ys) ∙ subst (λ (c : ℕ). new (c + 16 + y) ≡ Some hop.cell) same hop.stands)))
+      (λ same. absurd (none-some _ (sym (new_blank y ys) ∙ subst
+      (λ (c : ℕ). new (c + 16 + y) ≡ Some hop.cell) same hop.stands)))
       (node_of rest)
 
   -- an old child cell leads elsewhere
@@ -95,11 +112,13 @@ module _ {g : Layout} {old new : Image} {to v node x target : ℕ} (w : IsWellRo
       → t ≡ target → ⊥
   old_target {u} {other} {y} {t} m ys h same =
       let c = w.children u other y m ys (record { found = h.cell; stands = h.stands }) in
-      let is : t ≡ c.target = children t c.target (one_record_holds old (other + 16 + y) (Child t) (Child c.target) h c.child) in
+      let is : t ≡ c.target =
+      children t c.target (one_record_holds old (other + 16 + y) (Child t) (Child c.target) h c.child) in
       omega (arith, c.inside)
 
   no_child : {other y : ℕ} → other ≡ target → y < 16 → IsWritten new (other + 16 + y) → ⊥
-  no_child {other} {y} same ys is = none-some _ (sym (new_blank y ys) ∙ subst (λ (c : ℕ). new (c + 16 + y) ≡ Some is.found) same is.stands)
+  no_child {other} {y} same ys is =
+      none-some _ (sym (new_blank y ys) ∙ subst (λ (c : ℕ). new (c + 16 + y) ≡ Some is.found) same is.stands)
 
   written_of : {c : ℕ} {r : RecordCell} → Holds new c r → IsWritten new c
   written_of h = record { found = h.cell; stands = h.stands }
@@ -121,12 +140,14 @@ module _ {g : Layout} {old new : Image} {to v node x target : ℕ} (w : IsWellRo
       record {
         target = target;
         child = subst (λ (c : ℕ). Holds new c (Child target)) (sym same) child;
-        bucket = subst (λ (c : ℕ). IsWritten new c) (let z : node + x ≡ other + y = omega (arith, h.0, h.1) in z) (written_on e bucket);
+        bucket = subst (λ (c : ℕ). IsWritten new c) (let z : node + x ≡ other + y = omega (arith, h.0, h.1) in z)
+            (written_on e bucket);
         level = level_of u (subst (λ (c : ℕ). IsNode g old u c) h.0 there);
         from = omega arith;
         inside = omega arith;
       })
-      (λ differ. child_on e (omega arith) (w.children u other y there ys (written_back (a.others (other + 16 + y) differ) is)))
+      (λ differ. child_on e (omega arith) (w.children u other y there ys
+      (written_back (a.others (other + 16 + y) differ) is)))
       (same_or_not (other + 16 + y) (node + 16 + x)))
       (λ same. absurd (no_child same ys is))
       (node_of m)
@@ -142,14 +163,17 @@ module _ {g : Layout} {old new : Image} {to v node x target : ℕ} (w : IsWellRo
       (λ same. ⊎_elim
       (λ same'. same ∙ sym same')
       (λ differ'.
-      let is : t ≡ target = children t target (one_record_holds new (node + 16 + x) (Child t) (Child target) (subst (λ (c : ℕ). Holds new c (Child t)) same h) child) in
+      let is : t ≡ target = children t target (one_record_holds new (node + 16 + x) (Child t) (Child target)
+      (subst (λ (c : ℕ). Holds new c (Child t)) same h) child) in
       absurd (old_target also zs (holds_back (a.others (more + 16 + z) differ') i) is))
       (same_or_not (more + 16 + z) (node + 16 + x)))
       (λ differ. ⊎_elim
       (λ same'.
-      let is : t ≡ target = children t target (one_record_holds new (node + 16 + x) (Child t) (Child target) (subst (λ (c : ℕ). Holds new c (Child t)) same' i) child) in
+      let is : t ≡ target = children t target (one_record_holds new (node + 16 + x) (Child t) (Child target)
+      (subst (λ (c : ℕ). Holds new c (Child t)) same' i) child) in
       absurd (old_target there ys (holds_back (a.others (other + 16 + y) differ) h) is))
-      (λ differ'. w.once u other y k more z t there ys also zs (holds_back (a.others (other + 16 + y) differ) h) (holds_back (a.others (more + 16 + z) differ') i))
+      (λ differ'. w.once u other y k more z t there ys also zs (holds_back (a.others (other + 16 + y) differ) h)
+      (holds_back (a.others (more + 16 + z) differ') i))
       (same_or_not (more + 16 + z) (node + 16 + x)))
       (same_or_not (other + 16 + y) (node + 16 + x)))
       (λ same. absurd (no_child same zs (written_of i)))

@@ -43,9 +43,9 @@ pub record IsPlannedCopy (g : Layout) (old : Image) (p : Plan) (place : ℕ) : T
   pub before_document : target < blocks_end p
   pub index : IsIndexCell g old p.slot target ⊎ (p.start ≤ target)
 
--- New is old, which is settled, with the cells of a plan: its slot is at the horizon and its cells begin at the edge, it
--- stores a document, with a stamp past those of the done slots where documents are stamped, and its journal is in order and
--- tiles its blocks.
+-- New is old, which is settled, with the cells of a plan: its slot is at the horizon and its cells begin at the edge,
+-- it stores a document, with a stamp past those of the done slots where documents are stamped, and its journal is in
+-- order and tiles its blocks.
 pub record IsFilled (g : Layout) (old new : Image) (p : Plan) : Type 0 where
   pub volume : IsVolume g.cells old g
   pub before : IsSettled g old
@@ -56,7 +56,8 @@ pub record IsFilled (g : Layout) (old new : Image) (p : Plan) : Type 0 where
   pub done : Holds new (done_at p.slot) (Done p.slot)
   pub fits : cells_for (length (stored_of p)) + length p.journal ≤ p.reserved
   pub stamp : IsStampOf g new p.slot p.stamp
-  pub rises : (m lower seconds : ℕ) → p.stamp ≡ Some seconds → IsDoneSlot g old m → HasStamp old m lower → lower < seconds
+  pub rises : (m lower seconds : ℕ) → p.stamp ≡ Some seconds → IsDoneSlot g old m → HasStamp old m lower
+      → lower < seconds
   pub rows : IsWith (AnyRow p) old new
   pub is_identifier : IsIdentifier p.id
   pub is_body : IsBody p.body

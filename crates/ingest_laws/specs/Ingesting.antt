@@ -11,8 +11,8 @@ use Rattle.tamper_rules.specs.Settling.{IsSettled, IsWith, RecordRow, DoneRow, S
 use Rattle.volume_meaning.specs.Slots.{cells_for, IsHorizon}
 use Rattle.volume_meaning.specs.Volumes.{Holds, IsVolume, IsWritten}
 
--- What an ingest is to write: a document into a slot, which reserves these cells, and the cells of its journal; on a volume
--- of stamped documents its stamp.
+-- What an ingest is to write: a document into a slot, which reserves these cells, and the cells of its journal; on a
+-- volume of stamped documents its stamp.
 pub record Plan : Type 0 where
   pub slot : ℕ
   pub start : ℕ
@@ -78,7 +78,8 @@ StoredRow p cell value = ContentRow p cell value ⊎ CopyRow p cell value
 abbrev pub Row : Plan → Phase → ℕ → List ℕ → Type 0
 Row p Reserving cell value = RecordRow (Reserve p.start p.reserved) (reserve_at p.slot) cell value
 Row p Storing cell value = StoredRow p cell value ⊎ StampRow p cell value
-Row p Committing cell value = RecordRow (Commit (length (stored_of p)) (length p.journal)) (outcome_at p.slot) cell value
+Row p Committing cell value =
+    RecordRow (Commit (length (stored_of p)) (length p.journal)) (outcome_at p.slot) cell value
 Row p Applying cell value = AppliedRow p cell value
 Row p Finishing cell value = DoneRow p.slot cell value
 

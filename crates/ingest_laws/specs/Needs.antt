@@ -50,12 +50,13 @@ pub data WalksTo (image : Image) (key last : ℕ) : ℕ → Type 0 where
 
 -- A trail of the posting that ends at the last block: the posting stands in this place of its front.
 pub data TrailTo (image : Image) (from to last place : ℕ) (p : PostingFields) : ℕ → Type 0 where
-  at_end : (block : ℕ) → block ≡ last → place < 128 → InFront image last place p → TrailTo image from to last place p block
+  at_end : (block : ℕ) → block ≡ last → place < 128 → InFront image last place p
+      → TrailTo image from to last place p block
   through : (block target : ℕ) → Hop image from to block p.key target → TrailTo image from to last place p target
       → TrailTo image from to last place p block
 
--- The trail of the list's greatest key ends at this block, in a list that begins at head and has the range for its other
--- blocks: no posting with a trail from head has a greater key.
+-- The trail of the list's greatest key ends at this block, in a list that begins at head and has the range for its
+-- other blocks: no posting with a trail from head has a greater key.
 pub record IsTail (image : Image) (from to head block : ℕ) : Type 0 where
   pub greatest : PostingFields
   pub place : ℕ
@@ -70,9 +71,9 @@ pub record AddsBoth (old new : Image) (at pointer target : ℕ) (p : PostingFiel
   pub adds_jump : AddsOneCell pointer mid new
   pub jump : Holds new pointer (Jump target)
 
--- What one posting adds to the list that begins at head, and costs, where other blocks lie from `from` up to `next`, and
--- new ones begin there. The walk for its key ends at a block with a blank entry, and the posting goes there; or at a
--- blank pointer, which is set to the list's tail, where this has a blank entry, or else to a new block.
+-- What one posting adds to the list that begins at head, and costs, where other blocks lie from `from` up to `next`,
+-- and new ones begin there. The walk for its key ends at a block with a blank entry, and the posting goes there; or at
+-- a blank pointer, which is set to the list's tail, where this has a blank entry, or else to a new block.
 pub data PostingCosts (from head : ℕ) (p : PostingFields) (old new : Image) (next to cost : ℕ) : Type 0 where
   in_block : (block place : ℕ) → WalksTo old p.key block head → IsBlankEntry old block place
       → AddsOneCell (block + place) old new → Holds new (block + place) (posting_record p)
@@ -81,7 +82,8 @@ pub data PostingCosts (from head : ℕ) (p : PostingFields) (old new : Image) (n
       → IsTail old from next head tail → IsBlankEntry old tail place → AddsBoth old new (tail + place) pointer tail p
       → to ≡ next → cost ≡ 2 → PostingCosts from head p old new next to cost
   in_new_block : (block pointer tail : ℕ) → WalksTo old p.key block head → EndsAtPointer old block p.key pointer
-      → IsTail old from next head tail → ((i : ℕ) → i < 128 → IsWritten old (tail + i)) → AddsBoth old new next pointer next p
+      → IsTail old from next head tail → ((i : ℕ) → i < 128 → IsWritten old (tail + i))
+      → AddsBoth old new next pointer next p
       → to ≡ next + 256 → cost ≡ 258 → PostingCosts from head p old new next to cost
 
 -- What a document's postings cost one after another: what one adds stands before the next is taken. New blocks may pass
@@ -89,7 +91,8 @@ pub data PostingCosts (from head : ℕ) (p : PostingFields) (old new : Image) (n
 pub data PostingsCost (g : Layout) (new : Image) (to : ℕ) : List ListedPosting → Image → ℕ → ℕ → Type 0 where
   none : (old : Image) (next cost : ℕ) → old ≡ new → next ≡ to → cost ≡ 0 → PostingsCost g new to [] old next cost
   one : (a : ListedPosting) (rows : List ListedPosting) (old mid : Image) (next then cost first rest : ℕ)
-      → PostingCosts (pool_at g) (list_at g a.list) a.posting old mid next then first → PostingsCost g new to rows mid then rest
+      → PostingCosts (pool_at g) (list_at g a.list) a.posting old mid next then first
+      → PostingsCost g new to rows mid then rest
       → cost ≡ first + rest → PostingsCost g new to (a ∷ rows) old next cost
 
 -- What the bucket costs: the identifier's path ends at a blank bucket, or at a blank child cell.

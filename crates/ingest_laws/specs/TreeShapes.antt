@@ -8,8 +8,8 @@ use Rattle.ingest_laws.specs.ListShapes.{AddsOneCell}
 use Rattle.volume_meaning.specs.Nodes.{IsNode, AreApart}
 use Rattle.volume_meaning.specs.Volumes.{Holds, IsWritten}
 
--- A child cell leads well within the tree: its bucket is written, its node is at a level below 63, and the target's cells
--- lie in the pool up to here.
+-- A child cell leads well within the tree: its bucket is written, its node is at a level below 63, and the target's
+-- cells lie in the pool up to here.
 pub record ChildWell (g : Layout) (image : Image) (to v node x : ℕ) : Type 0 where
   pub target : ℕ
   pub child : Holds image (node + 16 + x) (Child target)
@@ -42,8 +42,8 @@ RootedApart =
     → ((v node x : ℕ) → IsNode g old v node → x < 16 → new (node + 16 + x) ≡ old (node + 16 + x))
     → IsWellRooted g new to
 
--- A child cell is set, whose bucket is written, in a node at a level below 63, to a new node: cells that meet no node, with
--- blank child cells.
+-- A child cell is set, whose bucket is written, in a node at a level below 63, to a new node: cells that meet no node,
+-- with blank child cells.
 abbrev pub RootedWithChild : Type 0
 RootedWithChild =
     (g : Layout) (old new : Image) (to v node x target : ℕ)

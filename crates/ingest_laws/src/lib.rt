@@ -1,8 +1,8 @@
 //! How a volume grows by a document: the cells that an ingest writes, that each moment of it is sound, and what a plan
 //! owes so that the volume is settled afterwards.
 //!
-//! An ingest puts its cells in five **phases**, each sure before the next begins. On the small volume, with the document
-//! `a` and the body `hello world`:
+//! An ingest puts its cells in five **phases**, each sure before the next begins. On the small volume, with the
+//! document `a` and the body `hello world`:
 //!
 //!     reserve    cell 4           cells 580 to 583 are slot 0's
 //!     store      580; 581 to 583  the document; the journal: copies of three index cells
@@ -15,8 +15,8 @@
 //!
 //! A **plan** is well made where its document is right, its journal is in order and tiles its blocks, and the lists and
 //! the tree keep their shapes (`IsWellPlanned`). Then the image with all its cells is settled and has one document more
-//! (`plan_is_settled`, `plan_adds_one`). The shape of a list, and of the tree, is said for itself, with a law for each way
-//! of adding one cell. The **need** of a document is the number of cells that its plan takes.
+//! (`plan_is_settled`, `plan_adds_one`). The shape of a list, and of the tree, is said for itself, with a law for each
+//! way of adding one cell. The **need** of a document is the number of cells that its plan takes.
 //!
 //! There is no code here, only laws. The definitions are in specs/: `Ingesting` (phases), `ListShapes`, `TreeShapes`,
 //! `Filling` (plans), `Needs`, in this order.

@@ -35,7 +35,8 @@ use Rattle.plan_laws.proofs.Taken as taken
 
 -- A planned cell is one of the document's postings in a block of the posting's list, a pointer of a list's block to
 -- another of its blocks, the document's bucket in a node, or a child cell of a node that leads to a node.
-pub data IsPlannedCell (g : Layout) (n : ℕ) (rows : List ListedPosting) (level : Level) (to : ℕ) (image : Image) (cell : ℕ)
+pub data IsPlannedCell (g : Layout) (n : ℕ) (rows : List ListedPosting) (level : Level) (to : ℕ)
+    (image : Image) (cell : ℕ)
     (value : List ℕ) : Type 0 where
   a_posting : (i : ℕ) (a : ListedPosting) (block at : ℕ) → slice_get rows i ≡ Some a → a.list < all_lists g
       → Leads image (pool_at g) to block (list_at g a.list) → at < 128 → cell ≡ block + at

@@ -80,7 +80,8 @@ module _ {g : Layout} {n : ℕ} {bound behind : ℕ → ℕ} {rows : List Listed
       ∙ adds.others cell (λ here.
       far {i = 16 + nibble level.digest level.number} apart (omega (arith, half)) (omega (arith, here)))
 
-  pub block_same : (l block i : ℕ) → l < all_lists g → Leads index.between (pool_at g) index.next block (list_at g l) → i < 256
+  pub block_same : (l block i : ℕ) → l < all_lists g → Leads index.between (pool_at g) index.next block (list_at g l)
+      → i < 256
       → new (block + i) ≡ index.between (block + i)
   block_same l block i list leads less =
       let below = leads_below leads (omega (arith, list, pool, index.lists.more)) in

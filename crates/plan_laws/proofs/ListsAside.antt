@@ -8,11 +8,13 @@ use Rattle.ingest_laws.specs.ListShapes.{IsWellListed}
 use Rattle.ingest_laws.proofs.ListShapes.{back, holds_back, listed_back, well_apart, well_wider}
 use Rattle.ingest_plan.specs.Standing.{ListsStand}
 
-module _ {g : Layout} {old new : Image} {next to : ℕ} {bound : ℕ → ℕ} (lists : ListsStand g old next bound) (e : Extends old new)
+module _ {g : Layout} {old new : Image} {next to : ℕ} {bound : ℕ → ℕ} (lists : ListsStand g old next bound)
+    (e : Extends old new)
     (more : next ≤ to)
     (same : (l block place : ℕ) → l < all_lists g → Leads old (pool_at g) next block (list_at g l) → place < 256
     → new (block + place) ≡ old (block + place)) where
-  as_it_was : (l : ℕ) → l < all_lists g → (block place : ℕ) → Leads old (pool_at g) next block (list_at g l) → place < 256
+  as_it_was : (l : ℕ) → l < all_lists g → (block place : ℕ) → Leads old (pool_at g) next block (list_at g l)
+      → place < 256
       → new (block + place) ≡ old (block + place)
   as_it_was l list block place leads less = same l block place list leads less
 
@@ -34,7 +36,8 @@ module _ {g : Layout} {old new : Image} {next to : ℕ} {bound : ℕ → ℕ} (l
         (trail.0, trail_on e (trail_wider (pool_at g) to (omega arith) more trail.1));
     keys = λ l list block place q leads less holds.
         let there = was_block l block list leads in
-        lists.keys l list block place q there less (holds_back (as_it_was l list block place there (omega arith)) holds);
+        lists.keys l list block place q there less (holds_back
+        (as_it_was l list block place there (omega arith)) holds);
     apart = λ l k list other differ a b x y.
         lists.apart l k list other differ a b (was_block l a list x) (was_block k b other y);
   }

@@ -42,7 +42,8 @@ bucket_costs g image id level bucket (Some child) digest (same, at, levels) blan
     (subst (λ (cell : ℕ). image cell ≡ None) here blank) refl
 
 module _ {g : Layout} {n edge : ℕ} {stamp : Option ℕ} {id body : List ℕ} {level : Level} {place : Open}
-    {made : PlannedIndex} {old new : DeviceState} (tells : IsTrue old.tells) (still : IsStill old.foreign_writes new.foreign_writes)
+    {made : PlannedIndex} {old new : DeviceState} (tells : IsTrue old.tells)
+    (still : IsStill old.foreign_writes new.foreign_writes)
     (layout : IsLayout g) (settled : IsSettled g old.image) (horizon : IsHorizon g old.image old.image n)
     (slot : n < g.slots) (begins : EndsBelow g old.image n edge) (given : IsStampFor g stamp)
     (later : IsLater g old.image n stamp) (ends : EndsPath g old.image level place)

@@ -132,7 +132,8 @@ module _ {g : Layout} {old laid : Image} {p : Plan} {rows : List ListedPosting} 
         Committing,
         record {
           at = one.0;
-          is = subst (λ (v : List ℕ). IsRecordCell (Commit (bytes h) (length p.journal)) (outcome_at p.slot) v) (sym one.1)
+          is = subst (λ (v : List ℕ). IsRecordCell (Commit (bytes h) (length p.journal)) (outcome_at p.slot) v)
+              (sym one.1)
               commit_cell;
         },
       )
@@ -155,7 +156,10 @@ module _ {g : Layout} {old laid : Image} {p : Plan} {rows : List ListedPosting} 
             (omega (arith, row.below))));
       })))))
   stored cell value (inr row) =
-      inl (inl (inl (inl (inl (inr (record { is = row_there (journal h) (journal_cells h) row.place row.at row.entry }))))))
+      inl (inl (inl (inl (inl (inr (record {
+        is = row_there (journal h)
+            (journal_cells h) row.place row.at row.entry;
+      }))))))
 
   stamped : (cell : ℕ) (value : List ℕ) (seconds : ℕ) → p.stamp ≡ Some seconds → cell ≡ spare_at p.slot
       → value ≡ record_bytes (Stamp seconds) (spare_at p.slot) → stamp_cell p.slot p.stamp cell ≡ Some value

@@ -33,7 +33,8 @@ time_bound g n seconds l past = ap (λ (b : Bool). if b then 256 * n else second
 module _ {g : Layout} {image : Image} {edge n : ℕ} (layout : IsLayout g) (s : IsSettled g image)
     (e : IsEdge g image image edge) (horizon : IsHorizon g image image n) (free : n < g.slots) (seconds : ℕ)
     (past : HasPastStamps g image n seconds) where
-  block_of : {l block : ℕ} → l < all_lists g → Leads image (pool_at g) edge block (list_at g l) → IsBlockOf g image l block
+  block_of : {l block : ℕ} → l < all_lists g → Leads image (pool_at g) edge block (list_at g l)
+      → IsBlockOf g image l block
   block_of list leads = record { list = list; leads = leads_wider (edge_inside layout e) leads }
 
   -- each posting is one of a slot below the horizon, or of its stamp
@@ -76,7 +77,8 @@ module _ {g : Layout} {image : Image} {edge n : ℕ} (layout : IsLayout g) (s : 
       s.met Rules.Pointers (pointer_at from level digit) (record { found = jump.cell; stands = jump.stands }) in
       let well : LeadsWell g image l from level digit = rule l from level digit b levels low high refl in
       let same : block ≡ well.target =
-      jumps block well.target (one_record_holds image (pointer_at from level digit) (Jump block) (Jump well.target) jump well.jump) in
+      jumps block well.target (one_record_holds image (pointer_at from level digit) (Jump block)
+      (Jump well.target) jump well.jump) in
       record {
         from = pool;
         apart = λ k other differ is. ⊎_elim
@@ -90,7 +92,10 @@ module _ {g : Layout} {image : Image} {edge n : ℕ} (layout : IsLayout g) (s : 
       → (block ≡ list_at g l) ⊎ LiesApart l block → (last ≡ list_at g l) ⊎ LiesApart l last
   reached {l} (arrived block is) b so = subst (λ (c : ℕ). (c ≡ list_at g l) ⊎ LiesApart l c) is so
   reached (onwards block level digit target levels low high jump from to rest) b so =
-      reached rest (record { list = b.list; leads = leads_further b.leads level digit target levels low high jump from to })
+      reached rest (record {
+        list = b.list;
+        leads = leads_further b.leads level digit target levels low high jump from to;
+      })
       (inr (led_apart b levels low high jump from))
 
   first_or_apart : {l block : ℕ} → IsBlockOf g image l block → (block ≡ list_at g l) ⊎ LiesApart l block

@@ -38,7 +38,8 @@ module _ {g : Layout} {image : Image} {edge : ℕ} (layout : IsLayout g) (s : Is
       s.met Rules.Children (above + 16 + x) (record { found = child.cell; stands = child.stands }) in
       let well : LeadsDownWell g image u above x = rule u above x rest less refl in
       let same : node ≡ well.target =
-      children node well.target (one_record_holds image (above + 16 + x) (Child node) (Child well.target) child well.child) in
+      children node well.target (one_record_holds image (above + 16 + x) (Child node)
+      (Child well.target) child well.child) in
       subst (λ (t : ℕ). AreApart t 32 block 256) (sym same) (well.blocks l block b)
 
   pub settled_tree : TreeStands g image edge

@@ -102,7 +102,8 @@ module _ {g : Layout} {stamp : Option ℕ} {body : List ℕ} {n : ℕ} {rows : L
       ))
       is
 
-  pub keys_of_slot : HasKeysBetween rows (below_slot g n (seconds_of stamp)) (below_slot g (n + 1) (seconds_of stamp + 1))
+  pub keys_of_slot : HasKeysBetween rows (below_slot g n (seconds_of stamp))
+      (below_slot g (n + 1) (seconds_of stamp + 1))
   keys_of_slot = record {
     rise = before;
     from = λ i p is. (between p (are.each i p is).1).0;

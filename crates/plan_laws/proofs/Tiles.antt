@@ -97,7 +97,8 @@ mapped (Some grant) target is = (grant, refl, cc)
 module _ {g : Layout} {old laid : Image} {p : Plan} {rows : List ListedPosting} {level : Level} {place : Open} {to : ℕ}
     {planned : Image} (h : IsPlannedIndex g old laid p rows level place to planned) where
   -- what the journal copies in the new image is planned
-  copies_planned : {at cell : ℕ} {r : RecordCell} → CopiesIndexCell (new_image h) p.start p.reserved (length p.journal) at cell r
+  copies_planned : {at cell : ℕ} {r : RecordCell} → CopiesIndexCell (new_image h) p.start p.reserved
+      (length p.journal) at cell r
       → Holds planned cell r
   copies_planned {at} {cell} {r} copies =
       let found = slice_get-get_or p.journal at [] copies.below in
@@ -258,7 +259,8 @@ module _ {g : Layout} {old laid : Image} {p : Plan} {rows : List ListedPosting} 
   has_size (to_node cell holds size) = inr (size, λ jump. clash (jump_copied jump) (child_piece holds))
 
   tiled : (from end : ℕ) (grants : List Grant)
-      → ((i : ℕ) (grant : Grant) → slice_get grants i ≡ Some grant → IsGrantLedTo planned grant) → GrantsTileCells from end grants
+      → ((i : ℕ) (grant : Grant) → slice_get grants i ≡ Some grant → IsGrantLedTo planned grant)
+      → GrantsTileCells from end grants
       → rules.Tile (new_image h) p.start p.reserved (length p.journal) from end
       (map (λ (grant : Grant). grant.at) grants)
   tiled from end [] led same = same

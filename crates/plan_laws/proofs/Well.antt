@@ -16,7 +16,8 @@ use Rattle.plan_laws.proofs.Nodes.{new_buckets, new_children}
 use Rattle.plan_laws.proofs.Postings.{postings}
 use Rattle.plan_laws.proofs.Standing.{apart, apart_nodes, blocks, lists, nodes, tree}
 
-pub well : {g : Layout} {old laid : Image} {p : Plan} {rows : List ListedPosting} {level : Level} {place : Open} {to : ℕ}
+pub well : {g : Layout} {old laid : Image} {p : Plan} {rows : List ListedPosting} {level : Level}
+    {place : Open} {to : ℕ}
     {planned : Image} → IsPlannedIndex g old laid p rows level place to planned
     → (new : Image) × IsWellPlanned g old new p
 well {g} {old} {laid} {p} h = (

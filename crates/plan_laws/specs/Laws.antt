@@ -26,8 +26,8 @@ use Rattle.ingest_plan.specs.Planning.{IsLater, IsPlanned}
 use Rattle.ingest_plan.specs.declared.plan.PlannedIndex.{PlannedIndex}
 
 -- The plan takes the slot at the horizon of a settled volume, and the cells from the edge on: blocks up to this one,
--- and the cells of its document and its journal. It has a stamp exactly where documents are stamped, which is past those
--- of the done slots. No slot stands with its identifier.
+-- and the cells of its document and its journal. It has a stamp exactly where documents are stamped, which is past
+-- those of the done slots. No slot stands with its identifier.
 pub record TakesSlot (g : Layout) (old : Image) (p : Plan) (to : ℕ) : Type 0 where
   pub layout : IsLayout g
   pub volume : IsVolume g.cells old g
@@ -82,7 +82,8 @@ AnswerIsWell =
     → TakesSlot g old.image p (p.start + made.block_length) → p.journal ≡ made.journal.items
     → EndsPath g old.image level place → level.digest ≡ sha256 p.id
     → PassedDown g old.image (sought_in g.cells g p.id) level place.child
-    → IsPlanned g p.slot p.start level place p.stamp p.body made old new → (after : Image) × IsWellPlanned g old.image after p
+    → IsPlanned g p.slot p.start level place p.stamp p.body made old new
+    → (after : Image) × IsWellPlanned g old.image after p
 
 -- What a document takes with the index that was planned for it on a settled volume, where nobody else wrote meanwhile,
 -- is exactly its need: the cells of the document and of the journal, the new blocks and the new node. It is so also

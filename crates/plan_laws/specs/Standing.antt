@@ -29,8 +29,8 @@ pub record IndexesStand (g : Layout) (image : Image) (next : ℕ) (bound : ℕ �
   pub lists : ListsStand g image next bound
   pub tree : TreeStands g image next
 
--- The bounds of the lists below a slot and a stamp: in a list of words no key of an earlier slot is as great, and the keys
--- of the time list are stamps.
+-- The bounds of the lists below a slot and a stamp: in a list of words no key of an earlier slot is as great, and the
+-- keys of the time list are stamps.
 abbrev pub below_slot : Layout → ℕ → ℕ → ℕ → ℕ
 below_slot g n seconds = λ (l : ℕ). if nat_lt l g.lists then 256 * n else seconds
 
@@ -43,7 +43,8 @@ seconds_of (Some seconds) = seconds
 abbrev pub HasPastStamps : Layout → Image → ℕ → ℕ → Type 0
 HasPastStamps g image n seconds = g.lists < all_lists g → IsPastStamps g image n seconds
 
--- in a settled image they do, before the edge and with keys of slots below the horizon, and of stamps that are before this
+-- in a settled image they do, before the edge and with keys of slots below the horizon, and of stamps that are before
+-- this
 abbrev pub SettledIndexesStand : Type 0
 SettledIndexesStand =
     (g : Layout) (image : Image) (edge n : ℕ) → IsLayout g → IsSettled g image → IsEdge g image image edge

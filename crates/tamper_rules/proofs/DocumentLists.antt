@@ -24,8 +24,11 @@ use Rattle.tamper_rules.proofs.Writing.{same_or_not}
 pub rise_last : (from : ℕ) (ds : List Document) (d : Document) → Rise from ds
     → ((e : Document) → Contains ds e → e.slot < d.slot) → from ≤ d.slot → Rise from (ds ++ d ∷ [])
 rise_last from [] d r less le = (le, tt)
-rise_last from (e ∷ ds) d r less le =
-    (r.0, rise_last (e.slot + 1) ds d r.1 (λ x c. less x (suc c.0, omega (arith, c.1), c.2)) (let h : e.slot < d.slot = less e (zero, omega arith, refl) in omega arith))
+rise_last from (e ∷ ds) d r less le = (
+  r.0,
+  rise_last (e.slot + 1) ds d r.1 (λ x c. less x (suc c.0, omega (arith, c.1), c.2))
+      (let h : e.slot < d.slot = less e (zero, omega arith, refl) in omega arith),
+)
 
 pub only_one : (d e : Document) → Contains (d ∷ []) e → e ≡ d
 only_one d e (zero, low, is) = sym is
@@ -39,15 +42,20 @@ record AreBelow (cells : ℕ) (image : Image) (k : ℕ) (ds : List Document) : T
   rise : Rise 0 ds
   each : (d : Document) → (IsDocument cells image d.slot d.id d.body × (d.slot < k)) ↔ Contains ds d
 
-module _ {g : Layout} {image : Image} (v : IsVolume g.cells image g) (s : IsSettled g image) (u : ℕ) (h : IsHorizon g image image u) where
+module _ {g : Layout} {image : Image} (v : IsVolume g.cells image g) (s : IsSettled g image) (u : ℕ)
+    (h : IsHorizon g image image u) where
   no_stands : {k : ℕ} {id body : List ℕ} → IsAbandonedSlot g image image k → Stands g.cells image k id body → ⊥
   no_stands {k} {id} {body} a t = no_abandon (length (stored_bytes id body)) t.journal
-      (one_record_holds image (outcome_at k) (Commit (length (stored_bytes id body)) t.journal) Abandon t.done.commits.outcome a.abandoned.abandons.outcome)
+      (one_record_holds image (outcome_at k) (Commit (length (stored_bytes id body)) t.journal) Abandon
+      t.done.commits.outcome a.abandoned.abandons.outcome)
 
   pub done_stands : {k : ℕ} → IsDoneSlot g image k → (id : List ℕ) × (body : List ℕ) × Stands g.cells image k id body
   done_stands {k} e =
-      let r : DocumentRule g image k = s.met Rules.Documents (outcome_at k) (record { found = e.done.commits.outcome.cell; stands = e.done.commits.outcome.stands }) k e.done.commits.reserves.slot refl in
-      let d : HasDocument image (document_at e.start e.length e.bytes e.journal) e.bytes = r e.start e.length e.bytes e.journal (record { commits = e.done.commits; done = inr e.done.done }) in (
+      let r : DocumentRule g image k = s.met Rules.Documents (outcome_at k)
+      (record { found = e.done.commits.outcome.cell; stands = e.done.commits.outcome.stands }) k
+      e.done.commits.reserves.slot refl in
+      let d : HasDocument image (document_at e.start e.length e.bytes e.journal) e.bytes =
+      r e.start e.length e.bytes e.journal (record { commits = e.done.commits; done = inr e.done.done }) in (
         d.id,
         d.body,
         record {
@@ -58,7 +66,8 @@ module _ {g : Layout} {image : Image} (v : IsVolume g.cells image g) (s : IsSett
           volume = v;
           slot = e.done.commits.reserves.slot;
           done = subst (λ (n : ℕ). IsDone g image k e.start e.length n e.journal) d.count e.done;
-          spells = subst (λ (n : ℕ). Spells image (document_at e.start e.length n e.journal) (stored_bytes d.id d.body)) d.count d.spells;
+          spells = subst (λ (n : ℕ). Spells image (document_at e.start e.length n e.journal)
+              (stored_bytes d.id d.body)) d.count d.spells;
           is_identifier = d.is_identifier;
           is_body = d.is_body;
         },
@@ -69,7 +78,11 @@ module _ {g : Layout} {image : Image} (v : IsVolume g.cells image g) (s : IsSett
   without {k} {ds} b a = record {
     rise = b.rise;
     each = λ d. (
-      λ t. (b.each d).0 (t.0, lower d.slot (λ same. no_stands a (subst (λ (n : ℕ). Stands g.cells image n d.id d.body) same (t.0).stands)) t.1),
+      λ t. (b.each d).0 (
+        t.0,
+        lower d.slot (λ same. no_stands a
+            (subst (λ (n : ℕ). Stands g.cells image n d.id d.body) same (t.0).stands)) t.1,
+      ),
       λ c. let x = (b.each d).1 c in (x.0, omega (arith, x.1)),
     );
   }
@@ -87,8 +100,10 @@ module _ {g : Layout} {image : Image} (v : IsVolume g.cells image g) (s : IsSett
         each = λ d. (
           λ x. ⊎_elim
               (λ same.
-              let e = one_document g.cells image k d.id d.body id body (subst (λ (n : ℕ). Stands g.cells image n d.id d.body) same (x.0).stands) t in
-              subst (λ (y : Document). Contains (ds ++ last ∷ []) y) (sym (documents d last same e.0 e.1)) (Contains-append_right ds (last ∷ []) last (the_one last)))
+              let e = one_document g.cells image k d.id d.body id body
+              (subst (λ (n : ℕ). Stands g.cells image n d.id d.body) same (x.0).stands) t in
+              subst (λ (y : Document). Contains (ds ++ last ∷ []) y) (sym (documents d last same e.0 e.1))
+              (Contains-append_right ds (last ∷ []) last (the_one last)))
               (λ other. Contains-append_left ds (last ∷ []) d ((b.each d).0 (x.0, lower d.slot other x.1)))
               (same_or_not d.slot k),
           λ c. ⊎_elim
@@ -104,7 +119,13 @@ module _ {g : Layout} {image : Image} (v : IsVolume g.cells image g) (s : IsSett
       lower n other less = omega arith
 
   up_to : (k : ℕ) → k ≤ u → (ds : List Document) × AreBelow g.cells image k ds
-  up_to zero le = ([], record { rise = tt; each = λ d. (λ t. absurd (omega (arith, t.1)), λ c. absurd (omega (arith, c.1))) })
+  up_to zero le = (
+    [],
+    record {
+      rise = tt;
+      each = λ d. (λ t. absurd (omega (arith, t.1)), λ c. absurd (omega (arith, c.1)));
+    },
+  )
   up_to (suc k) le =
       let before = up_to k (omega arith) in
       ⊎_elim
@@ -119,20 +140,27 @@ module _ {g : Layout} {image : Image} (v : IsVolume g.cells image g) (s : IsSett
     record {
       rise = (x.1).rise;
       each = λ d. (
-        λ t. ((x.1).each d).0 (t, (let inside : d.slot < g.slots = stands_inside v t.stands in let w = written t.stands.done.commits.reserves in lower d.slot inside w)),
+        λ t. ((x.1).each d).0 (
+          t,
+          (let inside : d.slot < g.slots = stands_inside v t.stands in let w = written
+              t.stands.done.commits.reserves in lower d.slot inside w),
+        ),
         λ c. (((x.1).each d).1 c).0,
       );
     },
   )
     where
       lower : (n : ℕ) → n < g.slots → IsWritten image (reserve_at n) → n < u
-      lower n inside w = ⊎_elim (λ same. absurd (blank n same inside w)) (λ differ. ⊎_elim (λ less. less) (λ above. absurd (over n above inside w)) differ) (cases_order n u)
+      lower n inside w = ⊎_elim (λ same. absurd (blank n same inside w))
+          (λ differ. ⊎_elim (λ less. less) (λ above. absurd (over n above inside w)) differ) (cases_order n u)
         where
           blank : (n : ℕ) → n ≡ u → n < g.slots → IsWritten image (reserve_at n) → ⊥
-          blank n same inside w = none-some _ (sym (h.free (omega arith)) ∙ ap (λ (i : ℕ). image (reserve_at i)) (sym same) ∙ w.stands)
+          blank n same inside w =
+              none-some _ (sym (h.free (omega arith)) ∙ ap (λ (i : ℕ). image (reserve_at i)) (sym same) ∙ w.stands)
 
           over : (n : ℕ) → u < n → n < g.slots → IsWritten image (reserve_at n) → ⊥
-          over n above inside w = let x = taken_below g image s n inside w u above in none-some _ (sym (h.free (omega arith)) ∙ x.stands)
+          over n above inside w =
+              let x = taken_below g image s n inside w u above in none-some _ (sym (h.free (omega arith)) ∙ x.stands)
 
 pub documents_exist : (cells : ℕ) (image : Image) → Settled cells image
     → (ds : List Document) × AreDocuments cells image ds

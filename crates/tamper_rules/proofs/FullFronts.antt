@@ -21,7 +21,8 @@ module _ {image : Image} {block : ℕ} (entries : (place : ℕ) → place < 128 
         e.p,
         ⊎_elim
             (λ first. absurd (omega arith))
-            (λ (r : (b : ℕ) × (q : PostingFields) × (suc n ≡ b + 1) × Holds image (block + b) (posting_record q) × (q.key < e.p.key)).
+            (λ (r : (b : ℕ) × (q : PostingFields) × (suc n ≡ b + 1) × Holds image (block + b) (posting_record q)
+            × (q.key < e.p.key)).
             let same : n ≡ r.0 = omega (arith, r.2) in
             let held : Holds image (block + n) (posting_record r.1) =
             subst (λ (k : ℕ). Holds image (block + k) (posting_record r.1)) (sym same) r.3 in
@@ -35,5 +36,6 @@ module _ {image : Image} {block : ℕ} (entries : (place : ℕ) → place < 128 
   pub ends_full : {greatest : PostingFields} → EndsFront image block greatest → IsFull image block greatest
   ends_full {greatest} e = ⊎_elim
       (λ (less : e.place + 1 < 128). let next = in_front (e.place + 1) less in absurd (e.ends less next.0 next.1))
-      (λ le. let last : e.place ≡ 127 = let low = e.in_places in omega arith in subst (λ (k : ℕ). InFront image block k greatest) last e.in_front)
+      (λ le. let last : e.place ≡ 127 = let low = e.in_places in omega arith in subst
+      (λ (k : ℕ). InFront image block k greatest) last e.in_front)
       (cases_lt (e.place + 1) 128)

@@ -20,17 +20,20 @@ use Rattle.volume_meaning.proofs.Stamps.{stamp_on}
 use Rattle.volume_meaning.proofs.Fronts.{front_on}
 use Rattle.tamper_rules.proofs.FullFronts.{ends_full, full_ends}
 use Rattle.tamper_rules.proofs.GivenUp.{no_abandon, log_was, held, stood, reserve_was, reserve_held, done_blank, stores_back, done_back, ended_on, ends, horizon_is, edge_is, old_edge, block_was, node_was, spells_back, one_layout, IsGivenUp, IsOf, of_reserve, of_outcome, of_spare, of_range, is_other, stamp_held}
-use Rattle.tamper_rules.proofs.GoingOn.{copies_on, copies_back, blocks_on, in_order_on, named_on, on_path_on, stores_go_on}
+use Rattle.tamper_rules.proofs.GoingOn.{copies_on, copies_back, blocks_on, in_order_goes_on, in_order_on, named_on, on_path_on, stores_go_on}
 use Rattle.volume_meaning.proofs.HashTrails.{hash_trail_on}
 use Rattle.tamper_rules.proofs.Images.{look}
 use Rattle.tamper_rules.proofs.Settled.{written, below_horizon}
 use Rattle.volume_meaning.proofs.Trails.{trail_on}
 
-module _ {g : Layout} {old new : Image} {n start size : ℕ} (v : IsVolume g.cells old g) (s : IsSettled g old) (u : IsGivenUp g old new n start size) where
+module _ {g : Layout} {old new : Image} {n start size : ℕ} (v : IsVolume g.cells old g) (s : IsSettled g old)
+    (u : IsGivenUp g old new n start size) where
   rule_1 : (m : ℕ) → m < g.slots → IsWritten new (reserve_at m) → ReserveRule g new m
   rule_1 m inside w = ⊎_elim
       (λ same. subst (λ (k : ℕ). ReserveRule g new k) (sym same) mine)
-      (λ differ. let r : ReserveRule g old m = s.met Rules.ReserveCells (reserve_at m) (reserve_was s u inside (λ same. ⊎_elim (λ less. omega arith) (λ above. omega arith) differ) w) m inside refl in
+      (λ differ. let r : ReserveRule g old m = s.met Rules.ReserveCells (reserve_at m)
+      (reserve_was s u inside (λ same. ⊎_elim (λ less. omega arith) (λ above. omega arith) differ) w)
+      m inside refl in
       record {
         start = r.start;
         length = r.length;
@@ -51,43 +54,78 @@ module _ {g : Layout} {old new : Image} {n start size : ℕ} (v : IsVolume g.cel
 
   rule_2 : (m : ℕ) → m < g.slots → IsWritten new (outcome_at m) → OutcomeRule g new m
   rule_2 m inside w = ⊎_elim
-      (λ same. subst (λ (k : ℕ). OutcomeRule g new k) (sym same) (record { reserve = written u.reserves; outcome = inl u.outcome }))
+      (λ same. subst (λ (k : ℕ). OutcomeRule g new k) (sym same) (record {
+        reserve = written u.reserves;
+        outcome = inl u.outcome;
+      }))
       (λ differ.
       let other : m ≡ n → ⊥ = λ same. ⊎_elim (λ less. omega arith) (λ above. omega arith) differ in
-      let before : IsWritten old (outcome_at m) = record { found = w.found; stands = log_was s u (outcome_at m) w.found (omega arith) (λ same. omega arith) (λ same. other (omega arith)) (λ same. omega arith) w.stands } in
+      let before : IsWritten old (outcome_at m) = record {
+        found = w.found;
+        stands = log_was s u (outcome_at m) w.found (omega arith) (λ same. omega arith) (λ same. other (omega arith))
+            (λ same. omega arith) w.stands;
+      } in
       let r : OutcomeRule g old m = s.met Rules.OutcomeCells (outcome_at m) before m inside refl in
       record {
         reserve = written_on u.keeps r.reserve;
         outcome = ⊎_elim (λ h. inl (holds_on u.keeps h))
-            (λ h. inr (h.0, h.1, holds_on u.keeps h.2, λ from reserved r. h.3 from reserved (reserve_held s u inside other r), λ e. stamped_on u.keeps (h.4 e)))
+            (λ h. inr (
+              h.0,
+              h.1,
+              holds_on u.keeps h.2,
+              λ from reserved r. h.3 from reserved
+                  (reserve_held s u inside other r),
+              λ e. stamped_on u.keeps (h.4 e),
+            ))
             r.outcome;
       })
       (cases_order m n)
 
   rule_3 : (m : ℕ) → m < g.slots → IsWritten new (done_at m) → DoneRule new m
   rule_3 m inside w =
-      let before : IsWritten old (done_at m) = record { found = w.found; stands = log_was s u (done_at m) w.found (omega arith) (λ same. omega arith) (λ same. omega arith) (λ same. omega arith) w.stands } in
+      let before : IsWritten old (done_at m) = record {
+        found = w.found;
+        stands = log_was s u (done_at m) w.found (omega arith) (λ same. omega arith) (λ same. omega arith)
+            (λ same. omega arith) w.stands;
+      } in
       let r : DoneRule old m = s.met Rules.DoneCells (done_at m) before m inside refl in
-      record { done = holds_on u.keeps r.done; bytes = r.bytes; journal = r.journal; commit = holds_on u.keeps r.commit }
+      record {
+        done = holds_on u.keeps r.done;
+        bytes = r.bytes;
+        journal = r.journal;
+        commit = holds_on u.keeps r.commit;
+      }
 
   rule_4 : (m : ℕ) → DocumentRule g new m
   rule_4 m from reserved bytes journal c =
       let b = stores_back s u c in
-      let r : DocumentRule g old m = s.met Rules.Documents (outcome_at m) (record { found = b.commits.outcome.cell; stands = b.commits.outcome.stands }) m b.commits.reserves.slot refl in
+      let r : DocumentRule g old m = s.met Rules.Documents (outcome_at m)
+      (record { found = b.commits.outcome.cell; stands = b.commits.outcome.stands }) m b.commits.reserves.slot refl in
       let d : HasDocument old (document_at from reserved bytes journal) bytes = r from reserved bytes journal b in
-      record { id = d.id; body = d.body; count = d.count; spells = spells_on _ _ u.keeps d.spells; is_identifier = d.is_identifier; is_body = d.is_body }
+      record {
+        id = d.id;
+        body = d.body;
+        count = d.count;
+        spells = spells_on _ _ u.keeps d.spells;
+        is_identifier = d.is_identifier;
+        is_body = d.is_body;
+      }
 
   rule_5 : (cell : ℕ) → IsWritten new cell → JournalRule g new cell
   rule_5 cell w = record {
     copy = λ m from reserved bytes journal place c below at.
         let b = stores_back s u c in
         let e = ends s u b.commits.reserves in
-        let before : IsWritten old cell = stood s u (omega (arith, at, b.commits.fits, b.commits.reserves.from)) (omega (arith, at, e, below, b.commits.fits)) w in
+        let before : IsWritten old cell = stood s u (omega (arith, at, b.commits.fits, b.commits.reserves.from))
+        (omega (arith, at, e, below, b.commits.fits)) w in
         let r : JournalRule g old cell = s.met Rules.Journals cell before in
         in_order_on u.keeps (done_blank s u) (r.copy m from reserved bytes journal place b below at);
     commit = λ m from reserved bytes journal place c below at.
         let b = stores_back s u c in
-        let before : IsWritten old (outcome_at m) = record { found = b.commits.outcome.cell; stands = b.commits.outcome.stands } in
+        let before : IsWritten old (outcome_at m) = record {
+          found = b.commits.outcome.cell;
+          stands = b.commits.outcome.stands;
+        } in
         let r : JournalRule g old (outcome_at m) = s.met Rules.Journals (outcome_at m) before in
         written_on u.keeps (r.commit m from reserved bytes journal place b below refl);
   }
@@ -95,21 +133,26 @@ module _ {g : Layout} {old new : Image} {n start size : ℕ} (v : IsVolume g.cel
   -- a settled image has no committed slot
   no_committed : (m from reserved bytes journal : ℕ) → IsCommitted g old old m from reserved bytes journal → ⊥
   no_committed m from reserved bytes journal c = ⊎_elim
-      (λ (a : IsAbandonedSlot g old old m). no_abandon bytes journal (one_record_holds old (outcome_at m) (Commit bytes journal) Abandon c.commits.outcome a.abandoned.abandons.outcome))
+      (λ (a : IsAbandonedSlot g old old m). no_abandon bytes journal
+      (one_record_holds old (outcome_at m) (Commit bytes journal) Abandon c.commits.outcome
+      a.abandoned.abandons.outcome))
       (λ (d : IsDoneSlot g old m). none-some _ (sym c.done ∙ d.done.done.stands))
-      (s.ended n m u.horizon (below_horizon g old s n m u.reserves.slot u.horizon c.commits.reserves.slot (written c.commits.reserves)))
+      (s.ended n m u.horizon (below_horizon g old s n m u.reserves.slot u.horizon c.commits.reserves.slot
+      (written c.commits.reserves)))
 
   -- a journal cell of a slot stood before
   entry_stood : {m from reserved bytes journal place : ℕ} → Commits g old m from reserved bytes journal
       → place < journal
-      → IsWritten new (journal_at from reserved journal + place) → IsWritten old (journal_at from reserved journal + place)
+      → IsWritten new (journal_at from reserved journal + place)
+      → IsWritten old (journal_at from reserved journal + place)
   entry_stood c below w =
       let e = ends s u c.reserves in
       stood s u (omega (arith, c.fits, c.reserves.from)) (omega (arith, e, below, c.fits)) w
 
   copies_was : {m from reserved bytes journal place target : ℕ} {r : RecordCell}
       → Commits g old m from reserved bytes journal
-      → CopiesIndexCell new from reserved journal place target r → CopiesIndexCell old from reserved journal place target r
+      → CopiesIndexCell new from reserved journal place target r
+      → CopiesIndexCell old from reserved journal place target r
   copies_was c k = copies_back u.keeps (entry_stood c k.below (record { found = k.entry; stands = k.stands })) k
 
   rule_6 : (cell : ℕ) → IsWritten new cell → RedoneRule g new cell
@@ -123,7 +166,10 @@ module _ {g : Layout} {old new : Image} {n start size : ℕ} (v : IsVolume g.cel
         u.keeps.keeps _ _ (same ∙ here) ∙ sym (u.keeps.keeps _ _ here);
     committed = λ m from reserved bytes journal place target copied d k at.
         let b = stores_back s u (record { commits = d.commits; done = inl d.done }) in
-        absurd (no_committed m from reserved bytes journal (record { commits = b.commits; done = blank_before u.keeps d.done }));
+        absurd (no_committed m from reserved bytes journal (record {
+          commits = b.commits;
+          done = blank_before u.keeps d.done;
+        }));
   }
 
   record WasIndex (cell : ℕ) : Type 0 where
@@ -154,10 +200,15 @@ module _ {g : Layout} {old new : Image} {n start size : ℕ} (v : IsVolume g.cel
   -- a stamp is that of the slot that is given up, or was one before
   true_stamp : (m : ℕ) → m < g.slots → IsWritten new (spare_at m) → IsTrueStamp g new m
   true_stamp m inside w = ⊎_elim
-      (λ same. subst (λ (k : ℕ). IsTrueStamp g new k) (sym same) (u.stamp (subst (λ (k : ℕ). IsWritten new (spare_at k)) same w)))
+      (λ same. subst (λ (k : ℕ). IsTrueStamp g new k) (sym same)
+      (u.stamp (subst (λ (k : ℕ). IsWritten new (spare_at k)) same w)))
       (λ differ.
       let other : m ≡ n → ⊥ = λ same. ⊎_elim (λ less. omega arith) (λ above. omega arith) differ in
-      let before : IsWritten old (spare_at m) = record { found = w.found; stands = log_was s u (spare_at m) w.found (omega arith) (λ is. omega arith) (λ is. omega arith) (λ is. other (omega arith)) w.stands } in
+      let before : IsWritten old (spare_at m) = record {
+        found = w.found;
+        stands = log_was s u (spare_at m) w.found (omega arith) (λ is. omega arith) (λ is. omega arith)
+            (λ is. other (omega arith)) w.stands;
+      } in
       let r : BlankRule g old (spare_at m) = s.met Rules.StrayCells (spare_at m) before in
       let t : IsTrueStamp g old m = r.spare m inside refl in
       record {
@@ -167,7 +218,13 @@ module _ {g : Layout} {old new : Image} {n start size : ℕ} (v : IsVolume g.cel
         stamp = holds_on u.keeps t.stamp;
         rises = λ k lower less d h.
             let b = done_back s u d.done in
-            t.rises k lower less (record { start = d.start; length = d.length; bytes = d.bytes; journal = d.journal; done = b })
+            t.rises k lower less (record {
+              start = d.start;
+              length = d.length;
+              bytes = d.bytes;
+              journal = d.journal;
+              done = b;
+            })
             (stamp_held s u b.commits.reserves.slot (is_other s u d.done.commits) h);
       })
       (cases_order m n)
@@ -176,7 +233,11 @@ module _ {g : Layout} {old new : Image} {n start size : ℕ} (v : IsVolume g.cel
   rule_7 cell w = record {
     kept_blank = λ one. ⊎_elim
         (λ less.
-        let before : IsWritten old cell = record { found = w.found; stands = log_was s u cell w.found (omega arith) (λ same. omega arith) (λ same. omega arith) (λ same. omega arith) w.stands } in
+        let before : IsWritten old cell = record {
+          found = w.found;
+          stands = log_was s u cell w.found (omega arith) (λ same. omega arith) (λ same. omega arith)
+              (λ same. omega arith) w.stands;
+        } in
         let r : BlankRule g old cell = s.met Rules.StrayCells cell before in
         r.kept_blank one)
         (λ le. le)
@@ -209,19 +270,13 @@ module _ {g : Layout} {old new : Image} {n start size : ℕ} (v : IsVolume g.cel
   rule_8 cell w = record {
     entry = λ l block place b below at.
         let k = block_was s u b in
-        let r : EntryRule g old cell = s.met Rules.Entries cell (stood s u (omega (arith, k.low)) (omega (arith, k.high)) w) in
-        let h : HoldsInOrder old block place = r.entry l block place k.is below at in
-        record {
-          p = h.p;
-          holds = holds_on u.keeps h.holds;
-          rises = ⊎_elim inl
-              (λ (x : (before : ℕ) × (q : PostingFields) × (place ≡ before + 1) × Holds old (block + before) (posting_record q) × (q.key < h.p.key)).
-              inr (x.0, x.1, x.2, holds_on u.keeps x.3, x.4))
-              h.rises;
-        };
+        let r : EntryRule g old cell =
+        s.met Rules.Entries cell (stood s u (omega (arith, k.low)) (omega (arith, k.high)) w) in
+        in_order_goes_on u.keeps (r.entry l block place k.is below at);
     blank = λ l block place b from to at.
         let k = block_was s u b in
-        let r : EntryRule g old cell = s.met Rules.Entries cell (stood s u (omega (arith, k.low)) (omega (arith, k.high)) w) in
+        let r : EntryRule g old cell =
+        s.met Rules.Entries cell (stood s u (omega (arith, k.low)) (omega (arith, k.high)) w) in
         r.blank l block place k.is from to at;
   }
 
@@ -235,12 +290,23 @@ module _ {g : Layout} {old new : Image} {n start size : ℕ} (v : IsVolume g.cel
       let high : cell < start = omega (arith, k.high) in
       let r : PostingRule g old cell = s.met Rules.Postings cell (stood s u low high w) in
       let t : IsTruePosting g old l p = r l block place p k.is below at (held s u low high h) in
-      record { slot = t.slot; stamp = t.stamp; is_stamp = stamp_on g t.slot t.stamp u.keeps t.is_stamp; live = live t.live; id = t.id; body = t.body; stands = stands_on u.keeps t.stands; postings = t.postings; is = t.is }
+      record {
+        slot = t.slot;
+        stamp = t.stamp;
+        is_stamp = stamp_on g t.slot t.stamp u.keeps t.is_stamp;
+        live = live t.live;
+        id = t.id;
+        body = t.body;
+        stands = stands_on u.keeps t.stands;
+        postings = t.postings;
+        is = t.is;
+      }
 
   rule_10 : (cell : ℕ) → IsWritten new cell → PointerRule g new cell
   rule_10 cell w l block level digit b ls d1 d2 at =
       let k = block_was s u b in
-      let r : PointerRule g old cell = s.met Rules.Pointers cell (stood s u (omega (arith, k.low)) (omega (arith, k.high)) w) in
+      let r : PointerRule g old cell =
+      s.met Rules.Pointers cell (stood s u (omega (arith, k.low)) (omega (arith, k.high)) w) in
       let t : LeadsWell g old l block level digit = r l block level digit k.is ls d1 d2 at in
       let entries : (place : ℕ) → place < 128 → HoldsInOrder old block place = λ place below.
       let e : EntryRule g old (block + place) = s.met Rules.Entries (block + place) (t.full place below) in
@@ -269,7 +335,8 @@ module _ {g : Layout} {old new : Image} {n start size : ℕ} (v : IsVolume g.cel
   rule_11 : (cell : ℕ) → IsWritten new cell → BucketRule g new cell
   rule_11 cell w level node x o less at =
       let k = node_was s u o in
-      let r : BucketRule g old cell = s.met Rules.Buckets cell (stood s u (omega (arith, k.low)) (omega (arith, k.high)) w) in
+      let r : BucketRule g old cell =
+      s.met Rules.Buckets cell (stood s u (omega (arith, k.low)) (omega (arith, k.high)) w) in
       let t : IsTrueBucket g old node x = r level node x k.is less at in
       record {
         slot = t.slot;
@@ -288,7 +355,8 @@ module _ {g : Layout} {old new : Image} {n start size : ℕ} (v : IsVolume g.cel
   rule_12 : (cell : ℕ) → IsWritten new cell → ChildRule g new cell
   rule_12 cell w level node x o less at =
       let k = node_was s u o in
-      let r : ChildRule g old cell = s.met Rules.Children cell (stood s u (omega (arith, k.low)) (omega (arith, k.high)) w) in
+      let r : ChildRule g old cell =
+      s.met Rules.Children cell (stood s u (omega (arith, k.low)) (omega (arith, k.high)) w) in
       let t : LeadsDownWell g old level node x = r level node x k.is less at in
       record {
         target = t.target;
@@ -342,23 +410,35 @@ module _ {g : Layout} {old new : Image} {n start size : ℕ} (v : IsVolume g.cel
   rule_13 m id body t =
       let b = stands_back t in
       let r : TrailRule g old m body = s.met Rules.Trails (done_at m) (done_written b) m id body refl b in
-      record { postings = r.postings; stamp = r.stamp; is_stamp = stamp_on g m r.stamp u.keeps r.is_stamp; trails = λ l p below is. let k = r.trails l p below is in (k.0, trail_on u.keeps k.1) }
+      record {
+        postings = r.postings;
+        stamp = r.stamp;
+        is_stamp = stamp_on g m r.stamp u.keeps r.is_stamp;
+        trails = λ l p below is. let k = r.trails l p below is in (k.0, trail_on u.keeps k.1);
+      }
 
   rule_14 : (m : ℕ) (id body : List ℕ) → Stands g.cells new m id body → PathRule g new m id
   rule_14 m id body t =
       let b = stands_back t in
       let r : PathRule g old m id = s.met Rules.Paths (done_at m) (done_written b) m id body refl b in
-      record { path = hash_trail_on u.keeps r.path; alone = λ k other less there. r.alone k other less (stands_back there) }
+      record {
+        path = hash_trail_on u.keeps r.path;
+        alone = λ k other less there. r.alone k other less (stands_back there);
+      }
 
   rule_15 : (m from reserved bytes journal : ℕ) → IsDone g new m from reserved bytes journal
       → TilingRule new from reserved bytes journal
   rule_15 m from reserved bytes journal d =
-      let r : TilingRule old from reserved bytes journal = s.met Rules.Tilings (outcome_at m) (record { found = b.commits.outcome.cell; stands = b.commits.outcome.stands }) m from reserved bytes journal refl b in
+      let r : TilingRule old from reserved bytes journal = s.met Rules.Tilings (outcome_at m)
+      (record { found = b.commits.outcome.cell; stands = b.commits.outcome.stands }) m from reserved bytes
+      journal refl b in
       record {
         targets = r.targets;
         each = λ target. (
           λ h. (r.each target).0 (⊎_elim (λ j. inl (jump_back j)) (λ c. inr (child_back c)) h.0, h.1, h.2),
-          λ among. let h = (r.each target).1 among in (⊎_elim (λ j. inl (jump_on j)) (λ c. inr (child_on c)) h.0, h.1, h.2),
+          λ among.
+              let h = (r.each target).1 among in
+              (⊎_elim (λ j. inl (jump_on j)) (λ c. inr (child_on c)) h.0, h.1, h.2),
         );
         tile = tile_on r.targets from (document_at from reserved bytes journal) r.tile;
       }
@@ -421,8 +501,10 @@ module _ {g : Layout} {old new : Image} {n start size : ℕ} (v : IsVolume g.cel
           nothing_done : old (done_at n) ≡ None
           nothing_done = ⊎_elim (λ none. none)
               (λ h.
-              let r : DoneRule old n = s.met Rules.DoneCells (done_at n) (record { found = h.0; stands = h.1 }) n u.reserves.slot refl in
-              let o : OutcomeRule g old n = s.met Rules.OutcomeCells (outcome_at n) (record { found = r.commit.cell; stands = r.commit.stands }) n u.reserves.slot refl in
+              let r : DoneRule old n =
+              s.met Rules.DoneCells (done_at n) (record { found = h.0; stands = h.1 }) n u.reserves.slot refl in
+              let o : OutcomeRule g old n = s.met Rules.OutcomeCells (outcome_at n)
+              (record { found = r.commit.cell; stands = r.commit.stands }) n u.reserves.slot refl in
               absurd (none-some _ (sym (u.horizon.free u.reserves.slot) ∙ o.reserve.stands)))
               (look old (done_at n))
 
@@ -431,7 +513,8 @@ module _ {g : Layout} {old new : Image} {n start size : ℕ} (v : IsVolume g.cel
           let is : k ≡ n + 1 = horizon_is s u k h in
           ⊎_elim
           (λ same. subst (λ (i : ℕ). HasEnded g new new i) (sym same) last)
-          (λ differ. ⊎_elim (λ below. ended_on s u (s.ended n m u.horizon below)) (λ above. absurd (omega arith)) differ)
+          (λ differ. ⊎_elim (λ below. ended_on s u (s.ended n m u.horizon below))
+          (λ above. absurd (omega arith)) differ)
           (cases_order m n)
 
   -- and its documents are the same

@@ -53,17 +53,30 @@ module _ (from : ℕ) (d : Document) (ds : List Document) (e : Document) (es : L
 
   up_behind : (x : Document) → Contains ds x → Contains es x
   up_behind x has = ⊎_elim
-      (λ (same : x ≡ e). absurd (omega (arith, same_slot same, same_slot heads_same, rises_from (d.slot + 1) ds p.1 x has)))
+      (λ (same : x ≡ e). absurd (omega (
+        arith,
+        same_slot same,
+        same_slot heads_same,
+        rises_from
+            (d.slot + 1) ds p.1 x has,
+      )))
       (λ (rest : Contains es x). rest)
       (among e es x (up x (rest_in d ds x has)))
 
   down_behind : (x y : Document) → Contains es x → Contains ds y → x.slot < y.slot → Contains ds x
   down_behind x y has low less = ⊎_elim
-      (λ (same : x ≡ d). absurd (omega (arith, same_slot same, same_slot heads_same, rises_from (e.slot + 1) es q.1 x has)))
+      (λ (same : x ≡ d). absurd (omega (
+        arith,
+        same_slot same,
+        same_slot heads_same,
+        rises_from
+            (e.slot + 1) es q.1 x has,
+      )))
       (λ (rest : Contains ds x). rest)
       (among d ds x (down x y (rest_in e es x has) (rest_in d ds y low) less))
 
--- A list by rising slot begins with another one, where it has each document of that one, and none else below one of them.
+-- A list by rising slot begins with another one, where it has each document of that one, and none else below one of
+-- them.
 begins_with : (from : ℕ) (ds es : List Document) → Rise from ds → Rise from es
     → ((x : Document) → Contains ds x → Contains es x)
     → ((x y : Document) → Contains es x → Contains ds y → x.slot < y.slot → Contains ds x)
@@ -114,7 +127,8 @@ module _ {g : Layout} {lower upper a b : Image} (v : IsVolume g.cells lower g) (
         (λ (done : IsDoneSlot g a m).
         let h = done.done.commits.outcome in record { found = h.cell; stands = h.stands })
         (sa.ended u.0 m u.1
-        (let high = in_log g a sa u.0 u.1 d.slot inside (written t.stands.done.commits.reserves) in omega (arith, high, less)))
+        (let high = in_log g a sa u.0 u.1 d.slot inside (written t.stands.done.commits.reserves) in omega
+        (arith, high, less)))
 
     stood : After g.cells lower a → lower (outcome_at m) ≡ Some outcome_written.found
     stood (nothing s same) = sym (same (outcome_at m)) ∙ outcome_written.stands

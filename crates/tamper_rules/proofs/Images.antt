@@ -32,7 +32,10 @@ pub all_of_it : {rows : ℕ → List ℕ → Type 0} {old new image : Image} →
     → Extends image new
     → ((cell : ℕ) (value : List ℕ) → rows cell value → image cell ≡ Some value) → image ≡ new
 all_of_it {rows} {old} {new} {image} w e f has = same_both
-    (record { keeps = λ cell value is. ⊎_elim (λ was. e.keeps cell value was) (λ row. has cell value row) (w.only cell value is) })
+    (record {
+      keeps = λ cell value is. ⊎_elim (λ was. e.keeps cell value was) (λ row. has cell value row)
+          (w.only cell value is);
+    })
     f
 
 -- an image that lies between one and it with some cells is made into the latter by these cells

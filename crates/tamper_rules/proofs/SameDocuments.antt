@@ -38,7 +38,8 @@ no_content : {r : RecordCell} {at : ℕ} {value : List ℕ} (stored : List ℕ) 
     → value ≡ content_at stored k → ⊥
 no_content {r} {at} {value} stored k is same =
     let low : slice_index (record_bytes r at) 0 ≤ 10 = kind_low r at in
-    let kind : slice_index (record_bytes r at) 0 ≡ 16 + length (take 15 (drop (15 * k) stored)) = ap (λ (v : List ℕ). slice_index v 0) (sym is.same ∙ same) in
+    let kind : slice_index (record_bytes r at) 0 ≡ 16 + length (take 15 (drop (15 * k) stored)) =
+    ap (λ (v : List ℕ). slice_index v 0) (sym is.same ∙ same) in
     omega (arith, low, kind)
 
 -- a content cell stood before settling
@@ -49,7 +50,8 @@ content_stood (nothing s same) cell stored k is = sym (same cell) ∙ is
 content_stood (abandoned g n start reserved v h r w) cell stored k is = ⊎_elim (λ was. was)
     (λ (row : AbandonRow n cell (content_at stored k)). absurd (no_content stored k row.is refl))
     (w.only cell (content_at stored k) is)
-content_stood {cells} {image} (completed g n start reserved bytes journal v h c ready w) cell stored k is = ⊎_elim (λ was. was)
+content_stood {cells} {image} (completed g n start reserved bytes journal v h c ready w) cell stored k is =
+    ⊎_elim (λ was. was)
     (λ rows. absurd (⊎_elim
     (λ (row : JournalRow image start reserved journal cell (content_at stored k)).
     let e = row.copies in no_content stored k e.is (some_is e.entry (content_at stored k) (sym e.stands ∙ row.stands)))
@@ -58,13 +60,15 @@ content_stood {cells} {image} (completed g n start reserved bytes journal v h c 
 
 -- so did a cell of the log that is no outcome cell and no done cell
 log_stood : {cells : ℕ} {image after : Image} → After cells image after → (cell : ℕ) (value : List ℕ) (g : Layout)
-    → cell < lists_at g → ((n : ℕ) → cell ≡ outcome_at n → ⊥) → ((n : ℕ) → cell ≡ done_at n → ⊥) → IsVolume cells image g
+    → cell < lists_at g → ((n : ℕ) → cell ≡ outcome_at n → ⊥) → ((n : ℕ) → cell ≡ done_at n → ⊥)
+    → IsVolume cells image g
     → after cell ≡ Some value → image cell ≡ Some value
 log_stood (nothing s same) cell value g low no_outcome no_done v is = sym (same cell) ∙ is
 log_stood (abandoned k n start reserved v h r w) cell value g low no_outcome no_done vol is = ⊎_elim (λ was. was)
     (λ (row : AbandonRow n cell value). absurd (no_outcome n row.at))
     (w.only cell value is)
-log_stood {cells} {image} (completed k n start reserved bytes journal v h c ready w) cell value g low no_outcome no_done vol is =
+log_stood {cells} {image} (completed k n start reserved bytes journal v h c ready w) cell value g low no_outcome
+    no_done vol is =
     ⊎_elim (λ was. was)
     (λ rows. absurd (⊎_elim
     (λ (row : JournalRow image start reserved journal cell value).
@@ -109,8 +113,13 @@ module _ {g : Layout} {lower upper a b : Image} (v : IsVolume g.cells lower g) (
       let d : IsDone g a m t.start t.reserved (length (stored_bytes id body)) t.journal =
       subst (λ (h : Layout). IsDone h a m t.start t.reserved (length (stored_bytes id body)) t.journal) layout t.done in
       let r = d.commits.reserves in
-      let outcome : Holds b (outcome_at m) (Commit (length (stored_bytes id body)) t.journal) = up (commit_stood x m (length (stored_bytes id body)) t.journal g r.slot v d.commits.outcome) in
-      let reserve = up (record { cell = r.reserve.cell; stands = reserve_stood x m r.reserve.cell g r.slot v r.reserve.stands; is = r.reserve.is }) in
+      let outcome : Holds b (outcome_at m) (Commit (length (stored_bytes id body)) t.journal) =
+      up (commit_stood x m (length (stored_bytes id body)) t.journal g r.slot v d.commits.outcome) in
+      let reserve = up (record {
+        cell = r.reserve.cell;
+        stands = reserve_stood x m r.reserve.cell g r.slot v r.reserve.stands;
+        is = r.reserve.is;
+      }) in
       let done : IsDoneSlot g b m = commit_done g b sb m (length (stored_bytes id body)) t.journal r.slot outcome in
       record {
         layout = g;
@@ -119,8 +128,17 @@ module _ {g : Layout} {lower upper a b : Image} (v : IsVolume g.cells lower g) (
         journal = t.journal;
         volume = vb;
         slot = r.slot;
-        done = record { commits = record { reserves = record { slot = r.slot; reserve = reserve; from = r.from; to = r.to }; outcome = outcome; fits = d.commits.fits; stamped = done.done.commits.stamped }; done = done.done.done };
-        spells = λ k below. (after_keeps y).keeps _ _ (e.keeps _ _ (content_stood x _ (stored_bytes id body) k (t.spells k below)));
+        done = record {
+          commits = record {
+            reserves = record { slot = r.slot; reserve = reserve; from = r.from; to = r.to };
+            outcome = outcome;
+            fits = d.commits.fits;
+            stamped = done.done.commits.stamped;
+          };
+          done = done.done.done;
+        };
+        spells = λ k below. (after_keeps y).keeps _ _ (e.keeps _ _
+            (content_stood x _ (stored_bytes id body) k (t.spells k below)));
         is_identifier = t.is_identifier;
         is_body = t.is_body;
       }
@@ -144,22 +162,27 @@ module _ {g : Layout} {lower upper a b : Image} (v : IsVolume g.cells lower g) (
   document_down_at d w t =
       let inside : d.slot < g.slots = stands_inside (volume_on (after_keeps y) late) t.stands in
       let c : Holds upper (outcome_at d.slot) (Commit (length (stored_bytes d.id d.body)) t.stands.journal) =
-      commit_stood y d.slot (length (stored_bytes d.id d.body)) t.stands.journal g inside late t.stands.done.commits.outcome in
+      commit_stood y d.slot (length (stored_bytes d.id d.body)) t.stands.journal g inside late
+      t.stands.done.commits.outcome in
       let low : Holds a (outcome_at d.slot) (Commit (length (stored_bytes d.id d.body)) t.stands.journal) = record {
         cell = w.found;
         stands = (after_keeps x).keeps _ _ w.stands;
-        is = subst (λ (k : List ℕ). IsRecordCell (Commit (length (stored_bytes d.id d.body)) t.stands.journal) (outcome_at d.slot) k) (some_is c.cell w.found (sym c.stands ∙ e.keeps _ _ w.stands)) c.is;
+        is = subst (λ (k : List ℕ). IsRecordCell (Commit (length (stored_bytes d.id d.body)) t.stands.journal)
+            (outcome_at d.slot) k) (some_is c.cell w.found (sym c.stands ∙ e.keeps _ _ w.stands)) c.is;
       } in
-      let done : IsDoneSlot g a d.slot = commit_done g a sa d.slot (length (stored_bytes d.id d.body)) t.stands.journal inside low in
+      let done : IsDoneSlot g a d.slot =
+      commit_done g a sa d.slot (length (stored_bytes d.id d.body)) t.stands.journal inside low in
       let u = some_horizon g a sa in
       let z = done_stands early sa u.0 u.1 done in
       let one = one_document g.cells b d.slot z.0 z.1 d.id d.body (stands_up v e x y sb z.2) t.stands in
-      let mine : Stands g.cells a d.slot d.id d.body = subst (λ (i : List ℕ). Stands g.cells a d.slot i d.body) one.0 (subst (λ (k : List ℕ). Stands g.cells a d.slot z.0 k) one.1 z.2) in
+      let mine : Stands g.cells a d.slot d.id d.body = subst (λ (i : List ℕ). Stands g.cells a d.slot i d.body) one.0
+      (subst (λ (k : List ℕ). Stands g.cells a d.slot z.0 k) one.1 z.2) in
       record { stands = mine; taken = taken_below g a sa d.slot inside (written mine.done.commits.reserves) }
 
 module _ {g : Layout} {lower upper a b : Image} (v : IsVolume g.cells lower g) (e : Extends lower upper)
     (x : After g.cells lower a) (y : After g.cells upper b) (sa : IsSettled g a) (sb : IsSettled g b)
-    (same : (m bytes journal : ℕ) → m < g.slots → Holds upper (outcome_at m) (Commit bytes journal) → IsWritten lower (outcome_at m)) where
+    (same : (m bytes journal : ℕ) → m < g.slots → Holds upper (outcome_at m) (Commit bytes journal)
+    → IsWritten lower (outcome_at m)) where
   rises : (d : Document) → IsDocument g.cells a d.slot d.id d.body → IsDocument g.cells b d.slot d.id d.body
   rises = document_up v e x y sb
 
@@ -174,31 +197,43 @@ module _ {g : Layout} {lower upper a b : Image} (v : IsVolume g.cells lower g) (
       t
 
   pub documents_up : (ds : List Document) → AreDocuments g.cells a ds → AreDocuments g.cells b ds
-  documents_up ds are = record { rise = are.rise; each = λ d. (λ t. (are.each d).0 (document_down d t), λ c. rises d ((are.each d).1 c)) }
+  documents_up ds are = record {
+    rise = are.rise;
+    each = λ d. (λ t. (are.each d).0 (document_down d t), λ c. rises d ((are.each d).1 c));
+  }
 
   pub documents_down : (ds : List Document) → AreDocuments g.cells b ds → AreDocuments g.cells a ds
-  documents_down ds are = record { rise = are.rise; each = λ d. (λ t. (are.each d).0 (rises d t), λ c. document_down d ((are.each d).1 c)) }
+  documents_down ds are = record {
+    rise = are.rise;
+    each = λ d. (λ t. (are.each d).0 (rises d t), λ c. document_down d ((are.each d).1 c));
+  }
 
 -- the after of a sound image, settled for this layout
 pub settled_for : {g : Layout} {image : Image} → IsVolume g.cells image g → (t : Sound g.cells image)
     → IsSettled g (t.after)
-settled_for {g} {image} v t = subst (λ (k : Layout). IsSettled k t.after) (one_layout t.settled.layout g t.settled.volume (volume_on (after_keeps t.is) v)) t.settled.settled
+settled_for {g} {image} v t = subst (λ (k : Layout). IsSettled k t.after)
+    (one_layout t.settled.layout g t.settled.volume (volume_on (after_keeps t.is) v)) t.settled.settled
 
 -- a sound image has a horizon
 horizon_of : {g : Layout} {image : Image} → IsVolume g.cells image g → (after : Image)
     → After g.cells image after → IsSettled g after → (u : ℕ) × IsHorizon g image image u
-horizon_of {g} {image} v after (nothing s same) settled = some_horizon g image (subst (λ (i : Image). IsSettled g i) (same_image same) settled)
-horizon_of {g} {image} v after (abandoned k n start reserved w h r x) settled = (n + 1, subst (λ (j : Layout). IsHorizon j image image (n + 1)) (one_layout k g w v) h.is)
-horizon_of {g} {image} v after (completed k n start reserved bytes journal w h c ready x) settled = (n + 1, subst (λ (j : Layout). IsHorizon j image image (n + 1)) (one_layout k g w v) h.is)
+horizon_of {g} {image} v after (nothing s same) settled =
+    some_horizon g image (subst (λ (i : Image). IsSettled g i) (same_image same) settled)
+horizon_of {g} {image} v after (abandoned k n start reserved w h r x) settled =
+    (n + 1, subst (λ (j : Layout). IsHorizon j image image (n + 1)) (one_layout k g w v) h.is)
+horizon_of {g} {image} v after (completed k n start reserved bytes journal w h c ready x) settled =
+    (n + 1, subst (λ (j : Layout). IsHorizon j image image (n + 1)) (one_layout k g w v) h.is)
 
 -- what a sound image holds
 pub held_of : {g : Layout} {image : Image} → IsVolume g.cells image g → (t : Sound g.cells image)
     → (ds : List Document) → Held g.cells image ds → AreDocuments g.cells (t.after) ds
 held_of {g} {image} v t ds (none blank is) = absurd (none-some _ (sym (blank 0) ∙ v.volume.stands))
-held_of {g} {image} v t ds (of_after after a are) = subst (λ (i : Image). AreDocuments g.cells i ds) (one_after g.cells image after t.after a t.is) are
+held_of {g} {image} v t ds (of_after after a are) =
+    subst (λ (i : Image). AreDocuments g.cells i ds) (one_after g.cells image after t.after a t.is) are
 
 module _ {g : Layout} {low high image : Image} (v : IsVolume g.cells low g)
-    (steady : (other : Image) → Extends low other → Extends other high → Sound g.cells other) (e : Extends low image) (f : Extends image high) where
+    (steady : (other : Image) → Extends low other → Extends other high → Sound g.cells other) (e : Extends low image)
+    (f : Extends image high) where
   all_up : Extends low high
   all_up = record { keeps = λ cell value is. f.keeps cell value (e.keeps cell value is) }
 
@@ -229,12 +264,14 @@ module _ {g : Layout} {low high image : Image} (v : IsVolume g.cells low g)
   as_low : ((m bytes journal : ℕ) → m < g.slots → Holds image (outcome_at m) (Commit bytes journal)
       → IsWritten low (outcome_at m))
       → (ds : List Document) → Held g.cells low ds → Held g.cells image ds
-  as_low same ds h = of_after here.after here.is (documents_up v e at_low.is here.is (settled_for v at_low) (settled_for vi here) same ds (held_of v at_low ds h))
+  as_low same ds h = of_after here.after here.is (documents_up v e at_low.is here.is (settled_for v at_low)
+      (settled_for vi here) same ds (held_of v at_low ds h))
 
   as_high : ((m bytes journal : ℕ) → m < g.slots → Holds high (outcome_at m) (Commit bytes journal)
       → IsWritten image (outcome_at m))
       → (ds : List Document) → Held g.cells high ds → Held g.cells image ds
-  as_high same ds h = of_after here.after here.is (documents_down vi f here.is at_high.is (settled_for vi here) (settled_for vh at_high) same ds (held_of vh at_high ds h))
+  as_high same ds h = of_after here.after here.is (documents_down vi f here.is at_high.is (settled_for vi here)
+      (settled_for vh at_high) same ds (held_of vh at_high ds h))
 
   by_commit : (n : ℕ) → low_horizon.0 ≡ n + 1
       → ((ds : List Document) → Held g.cells low ds → Held g.cells image ds)

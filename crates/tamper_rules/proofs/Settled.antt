@@ -31,7 +31,8 @@ edge_horizon g image at e = record {
   most = e.most;
   below = λ m is. ⊎_elim
       (λ (z : (e.u ≡ 0) × (at ≡ _)). absurd (omega (arith, z.0, is)))
-      (λ (w : (k : ℕ) × (start : ℕ) × (length : ℕ) × (e.u ≡ k + 1) × Reserves g image k start length × (at ≡ start + length)).
+      (λ (w : (k : ℕ) × (start : ℕ) × (length : ℕ) × (e.u ≡ k + 1) × Reserves g image k start length
+      × (at ≡ start + length)).
       let same : k_of w ≡ m = omega (arith, is, w.3) in
       subst (λ (k : ℕ). IsWritten image (reserve_at k)) same (written w.4))
       e.ends;
@@ -62,7 +63,8 @@ module _ (g : Layout) (image : Image) (s : IsSettled g image) where
       let last : IsWritten image (reserve_at k) = h.below k (omega arith) in
       ⊎_elim
       (λ same. subst (λ (i : ℕ). IsWritten image (reserve_at i)) (sym same) last)
-      (λ differ. ⊎_elim (λ less. taken_below k (omega (arith, h.most)) last m less) (λ above. absurd (omega arith)) differ)
+      (λ differ. ⊎_elim (λ less. taken_below k (omega (arith, h.most)) last m less)
+      (λ above. absurd (omega arith)) differ)
       (cases_order m k)
 
   -- and no other
@@ -71,7 +73,8 @@ module _ (g : Layout) (image : Image) (s : IsSettled g image) where
   below_horizon n m free h inside w = ⊎_elim
       (λ same. absurd (none-some _ (sym (h.free free) ∙ ap (λ (i : ℕ). image (reserve_at i)) (sym same) ∙ w.stands)))
       (λ differ. ⊎_elim (λ less. less)
-      (λ above. let x : IsWritten image (reserve_at n) = taken_below m inside w n above in absurd (none-some _ (sym (h.free free) ∙ x.stands)))
+      (λ above. let x : IsWritten image (reserve_at n) = taken_below m inside w n above in absurd
+      (none-some _ (sym (h.free free) ∙ x.stands)))
       differ)
       (cases_order m n)
 
@@ -85,14 +88,16 @@ module _ (g : Layout) (image : Image) (s : IsSettled g image) where
       let same : w.0 ≡ k = omega (arith, w.3) in
       let last : Reserves g image k w.1 w.2 = subst (λ (i : ℕ). Reserves g image i w.1 w.2) same w.4 in
       ⊎_elim
-      (λ is. let both = reserves start length w.1 w.2 (one_record_holds image (reserve_at k) (Reserve start length) (Reserve w.1 w.2)
+      (λ is. let both = reserves start length w.1 w.2 (one_record_holds image (reserve_at k) (Reserve start length)
+      (Reserve w.1 w.2)
       (subst (λ (i : ℕ). Holds image (reserve_at i) (Reserve start length)) is r.reserve) last.reserve) in
       omega (arith, both.0, both.1, w.5))
       (λ differ. ⊎_elim
       (λ lower.
       let rule : ReserveRule g image k = s.met ReserveCells (reserve_at k) (written last) k last.slot refl in
       let before : start + length ≤ rule.start = ends_before k rule.start rule.begins m start length lower r in
-      let both = reserves w.1 w.2 rule.start rule.length (one_record_holds image (reserve_at k) (Reserve w.1 w.2) (Reserve rule.start rule.length) last.reserve rule.reserves.reserve) in
+      let both = reserves w.1 w.2 rule.start rule.length (one_record_holds image (reserve_at k) (Reserve w.1 w.2)
+      (Reserve rule.start rule.length) last.reserve rule.reserves.reserve) in
       omega (arith, both.0, w.5))
       (λ above. absurd (omega arith)) differ)
       (cases_order m k))
@@ -110,7 +115,8 @@ module _ (g : Layout) (image : Image) (s : IsSettled g image) where
       apart u (suc v) h k less =
           let last : IsWritten image (reserve_at v) = k.below v (omega arith) in
           ⊎_elim
-          (λ same. none-some _ (sym (h.free (omega (arith, k.most))) ∙ ap (λ (m : ℕ). image (reserve_at m)) same ∙ last.stands))
+          (λ same. none-some _ (sym (h.free (omega (arith, k.most))) ∙ ap (λ (m : ℕ). image (reserve_at m)) same
+          ∙ last.stands))
           (λ differ. ⊎_elim
           (λ below. let at : IsWritten image (reserve_at u) = taken_below v (omega (arith, k.most)) last u below in
           none-some _ (sym (h.free (omega (arith, k.most))) ∙ at.stands))
@@ -132,10 +138,17 @@ module _ (g : Layout) (image : Image) (s : IsSettled g image) where
 
   -- below a horizon the reservations end somewhere, and that is an edge
   pub some_edge : (u : ℕ) → IsHorizon g image image u → (at : ℕ) × IsEdge g image image at × EndsBelow g image u at
-  some_edge zero h = (pool_at g, record { u = zero; most = h.most; free = h.free; ends = inl (refl, refl) }, inl (refl, refl))
+  some_edge zero h = (
+    pool_at g,
+    record { u = zero; most = h.most; free = h.free; ends = inl (refl, refl) },
+    inl
+        (refl, refl),
+  )
   some_edge (suc m) h =
-      let rule : ReserveRule g image m = s.met ReserveCells (reserve_at m) (h.below m (omega arith)) m (omega (arith, h.most)) refl in
-      let ends : EndsBelow g image (suc m) (rule.start + rule.length) = inr (m, rule.start, rule.length, omega arith, rule.reserves, refl) in
+      let rule : ReserveRule g image m =
+      s.met ReserveCells (reserve_at m) (h.below m (omega arith)) m (omega (arith, h.most)) refl in
+      let ends : EndsBelow g image (suc m) (rule.start + rule.length) =
+      inr (m, rule.start, rule.length, omega arith, rule.reserves, refl) in
       (rule.start + rule.length, record { u = suc m; most = h.most; free = h.free; ends = ends }, ends)
 
 -- where the reservations of the slots below n end is one place
@@ -155,7 +168,8 @@ one_end g image n a b h k = ⊎_elim
         → a ≡ s + t → b ≡ u + v → a ≡ b
     apart m l s t u v is is' r q e f =
         let same : m ≡ l = omega (arith, is, is') in
-        let both = reserves s t u v (one_record_holds image (reserve_at l) (Reserve s t) (Reserve u v) (subst (λ (k : ℕ). Holds image (reserve_at k) (Reserve s t)) same r.reserve) q.reserve) in
+        let both = reserves s t u v (one_record_holds image (reserve_at l) (Reserve s t) (Reserve u v)
+        (subst (λ (k : ℕ). Holds image (reserve_at k) (Reserve s t)) same r.reserve) q.reserve) in
         omega (arith, both.0, both.1, e, f)
 
 -- a settled image has one edge

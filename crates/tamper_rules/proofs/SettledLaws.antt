@@ -20,7 +20,8 @@ unbroken cells image number cell s b =
     let same : s.layout ≡ b.layout = one_layout s.layout b.layout s.volume b.volume in
     b.not_met (subst (λ (g : Layout). IsMet g image b.rule cell) same (s.settled.met b.rule cell b.written))
 
-module _ {cells : ℕ} {image : Image} {g : Layout} (l : IsLayout g) (v : IsVolume cells image g) (blank : (cell : ℕ) → 1 ≤ cell → image cell ≡ None) where
+module _ {cells : ℕ} {image : Image} {g : Layout} (l : IsLayout g) (v : IsVolume cells image g)
+    (blank : (cell : ℕ) → 1 ≤ cell → image cell ≡ None) where
   only_0 : (cell : ℕ) → IsWritten image cell → cell ≡ 0
   only_0 zero w = refl
   only_0 (suc cell) w = absurd (none-some _ (sym (blank (suc cell) (omega arith)) ∙ w.stands))
@@ -33,7 +34,8 @@ module _ {cells : ℕ} {image : Image} {g : Layout} (l : IsLayout g) (v : IsVolu
 
   far_block : {block last : ℕ} → Leads image (pool_at g) g.cells last block → 1 ≤ block → 1 ≤ last
   far_block (arrived block is) some = omega arith
-  far_block (onwards block level digit target ls d1 d2 jump from to rest) some = absurd (none_at (pointer_at block level digit) (omega arith) jump)
+  far_block (onwards block level digit target ls d1 d2 jump from to rest) some =
+      absurd (none_at (pointer_at block level digit) (omega arith) jump)
 
   far_node : {level node : ℕ} → IsNode g image level node → 1 ≤ node
   far_node (root level node is at) = omega arith
@@ -67,8 +69,10 @@ module _ {cells : ℕ} {image : Image} {g : Layout} (l : IsLayout g) (v : IsVolu
     entry = λ k block place b below at. absurd (let far = far_block b.leads (omega arith) in omega arith);
     blank = λ k block place b from to at. let far = far_block b.leads (omega arith) in omega arith;
   }
-  met_0 Rules.Postings = λ k block place p b below at h. absurd (let far = far_block b.leads (omega arith) in omega arith)
-  met_0 Rules.Pointers = λ k block level digit b ls d1 d2 at. absurd (let far = far_block b.leads (omega arith) in omega arith)
+  met_0 Rules.Postings =
+      λ k block place p b below at h. absurd (let far = far_block b.leads (omega arith) in omega arith)
+  met_0 Rules.Pointers =
+      λ k block level digit b ls d1 d2 at. absurd (let far = far_block b.leads (omega arith) in omega arith)
   met_0 Rules.Buckets = λ level node x o less at. absurd (let far = far_node o in omega arith)
   met_0 Rules.Children = λ level node x o less at. absurd (let far = far_node o in omega arith)
   met_0 Rules.Trails = λ m id body at t. absurd (omega arith)
@@ -77,7 +81,8 @@ module _ {cells : ℕ} {image : Image} {g : Layout} (l : IsLayout g) (v : IsVolu
 
   no_horizon : (u m : ℕ) → IsHorizon g image image u → m < u → ⊥
   no_horizon zero m h less = omega arith
-  no_horizon (suc k) m h less = let w = h.below k (omega arith) in none-some _ (sym (blank (reserve_at k) (omega arith)) ∙ w.stands)
+  no_horizon (suc k) m h less =
+      let w = h.below k (omega arith) in none-some _ (sym (blank (reserve_at k) (omega arith)) ∙ w.stands)
 
   pub formatted : Settled cells image × AreDocuments cells image []
   formatted = (
@@ -89,5 +94,11 @@ module _ {cells : ℕ} {image : Image} {g : Layout} (l : IsLayout g) (v : IsVolu
         ended = λ u m h less. absurd (no_horizon u m h less);
       };
     },
-    record { rise = tt; each = λ d. (λ t. absurd (none_at (reserve_at d.slot) (omega arith) t.stands.done.commits.reserves.reserve), λ among. absurd (omega (arith, among.1))) },
+    record {
+      rise = tt;
+      each = λ d. (
+        λ t. absurd (none_at (reserve_at d.slot) (omega arith) t.stands.done.commits.reserves.reserve),
+        λ among. absurd (omega (arith, among.1)),
+      );
+    },
   )

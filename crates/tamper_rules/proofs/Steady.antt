@@ -1,5 +1,5 @@
--- Where each image between two is blank or sound, it holds the documents of the lower or those of the upper; and an image
--- holds one list of documents.
+-- Where each image between two is blank or sound, it holds the documents of the lower or those of the upper; and an
+-- image holds one list of documents.
 use Rattle.std.proofs.Common.{◌≡◌, ◌<◌, ◌⊎◌, ⊎_elim, inl, inr, ℕ, suc, zero, List, Some, None, refl, sym, ◌∙◌, subst, ap, arith}
 use Rattle.std.proofs.lemmas.Option.{none-some}
 use Rattle.cell_types.specs.Image.{Image, Extends}
@@ -26,7 +26,8 @@ held_one cells image one other (none blank is) (none blank' is') = is ∙ sym is
 held_one cells image one other (none blank is) (of_after after a are) = absurd (not_blank a (blank 0))
 held_one cells image one other (of_after after a are) (none blank is) = absurd (not_blank a (blank 0))
 held_one cells image one other (of_after after a are) (of_after after' a' are') =
-    lists_one cells after' one other (subst (λ (i : Image). AreDocuments cells i one) (one_after cells image after after' a a') are) are'
+    lists_one cells after' one other (subst (λ (i : Image). AreDocuments cells i one)
+    (one_after cells image after after' a a') are) are'
 
 -- the documents of one of two images
 abbrev HoldsOneOf : ℕ → Image → Image → Image → Type 0
@@ -34,7 +35,8 @@ HoldsOneOf cells low high image =
     ((documents : List Document) → Held cells low documents → Held cells image documents)
     ⊎ ((documents : List Document) → Held cells high documents → Held cells image documents)
 
-module _ {cells : ℕ} {low high image : Image} (steady : (other : Image) → Extends low other → Extends other high → IsBlankOrSound cells other)
+module _ {cells : ℕ} {low high image : Image} (steady : (other : Image) → Extends low other → Extends other high
+    → IsBlankOrSound cells other)
     (e : Extends low image) (f : Extends image high) where
   -- where the lower one is sound, so is each
   from_sound : (g : Layout) → IsVolume cells low g → HoldsOneOf cells low high image
@@ -62,9 +64,11 @@ module _ {cells : ℕ} {low high image : Image} (steady : (other : Image) → Ex
         (record {
           keeps = λ at found is. ⊎_elim
               (λ (same : at ≡ cell).
-              let same_value : found ≡ value = some_is found value (sym is ∙ put_there (λ i. None) cell value at same) in
+              let same_value : found ≡ value =
+              some_is found value (sym is ∙ put_there (λ i. None) cell value at same) in
               ap high same ∙ stands ∙ ap (λ (v : List ℕ). Some v) (sym same_value))
-              (λ (other : at ≡ cell → ⊥). absurd (none-some found (sym (put_other (λ i. None) cell value at other) ∙ is)))
+              (λ (other : at ≡ cell → ⊥). absurd (none-some found
+              (sym (put_other (λ i. None) cell value at other) ∙ is)))
               (same_or_not at cell);
         }))
 
@@ -92,4 +96,5 @@ module _ {cells : ℕ} {low high image : Image} (steady : (other : Image) → Ex
   steady_two = ⊎_elim
       from_blank
       (λ (s : Sound cells low). let v = volume_of s.is in from_sound v.0 v.1)
-      (steady low (record { keeps = λ cell value is. is }) (record { keeps = λ cell value is. f.keeps cell value (e.keeps cell value is) }))
+      (steady low (record { keeps = λ cell value is. is })
+      (record { keeps = λ cell value is. f.keeps cell value (e.keeps cell value is) }))

@@ -31,4 +31,5 @@ put_other image at value cell other = other_by image at value cell (cases_order 
 
 -- two numbers are the same or not
 pub same_or_not : (a b : ℕ) → (a ≡ b) ⊎ (a ≡ b → ⊥)
-same_or_not a b = ⊎_elim inl (λ differ. inr (λ same. ⊎_elim (λ less. omega arith) (λ above. omega arith) differ)) (cases_order a b)
+same_or_not a b = ⊎_elim inl (λ differ. inr (λ same. ⊎_elim (λ less. omega arith) (λ above. omega arith) differ))
+    (cases_order a b)

@@ -29,8 +29,8 @@ pub record ReserveRule (g : Layout) (image : Image) (n : ℕ) : Type 0 where
   pub before : (m : ℕ) → n ≡ m + 1 → HasEnded g image image m
 
 -- Rule 2, at the outcome cell of slot n: the slot's reserve cell is written, and the cell is an abandon cell, or a
--- commit cell of no more cells than the reserve cell states, where this is well-formed; on a volume of stamped documents
--- a slot with a commit cell has a stamp.
+-- commit cell of no more cells than the reserve cell states, where this is well-formed; on a volume of stamped
+-- documents a slot with a commit cell has a stamp.
 pub record OutcomeRule (g : Layout) (image : Image) (n : ℕ) : Type 0 where
   pub reserve : IsWritten image (reserve_at n)
   pub outcome : Holds image (outcome_at n) Abandon
@@ -92,8 +92,8 @@ pub data IsDoneIndexCell (g : Layout) (image : Image) (cell : ℕ) : Type 0 wher
   of_slot : (m start reserved bytes journal : ℕ) → IsDone g image m start reserved bytes journal → start ≤ cell
       → cell < document_at start reserved bytes journal → IsDoneIndexCell g image cell
 
--- the stamp of slot n is in order: the volume's documents are stamped, the slot's reserve cell is written, and the stamp is
--- greater than that of each lower done slot
+-- the stamp of slot n is in order: the volume's documents are stamped, the slot's reserve cell is written, and the
+-- stamp is greater than that of each lower done slot
 pub record IsTrueStamp (g : Layout) (image : Image) (n : ℕ) : Type 0 where
   pub version : g.version ≡ STAMPED_VERSION
   pub reserve : IsWritten image (reserve_at n)
@@ -101,8 +101,9 @@ pub record IsTrueStamp (g : Layout) (image : Image) (n : ℕ) : Type 0 where
   pub stamp : HasStamp image n seconds
   pub rises : (m lower : ℕ) → m < n → IsDoneSlot g image m → HasStamp image m lower → lower < seconds
 
--- Rule 7: the cell is none of 1 to 3; a spare cell is a stamp in order; where the cell lies in a first block, in the root or in the block
--- part of a done slot, a done slot's journal names it; and where it lies in the pool it lies before each edge.
+-- Rule 7: the cell is none of 1 to 3; a spare cell is a stamp in order; where the cell lies in a first block, in the
+-- root or in the block part of a done slot, a done slot's journal names it; and where it lies in the pool it lies
+-- before each edge.
 pub record BlankRule (g : Layout) (image : Image) (cell : ℕ) : Type 0 where
   pub kept_blank : 1 ≤ cell → 4 ≤ cell
   pub spare : (n : ℕ) → n < g.slots → cell ≡ spare_at n → IsTrueStamp g image n
@@ -149,10 +150,10 @@ pub record EndsFront (image : Image) (block : ℕ) (greatest : PostingFields) : 
   pub in_front : InFront image block place greatest
   pub ends : place + 1 < 128 → (next : PostingFields) → InFront image block (place + 1) next → ⊥
 
--- The pointer of a level and a digit leads well from a block of list l: it is a jump cell; each entry place of its block is written; the
--- target's cells lie in the pool, before each edge, and in the block part of one slot that is committed or done; some
--- key of the target's front lies in the pointer's span; and the target's cells meet no block that begins elsewhere,
--- none of another list, and no node.
+-- The pointer of a level and a digit leads well from a block of list l: it is a jump cell; each entry place of its
+-- block is written; the target's cells lie in the pool, before each edge, and in the block part of one slot that is
+-- committed or done; some key of the target's front lies in the pointer's span; and the target's cells meet no block
+-- that begins elsewhere, none of another list, and no node.
 pub record LeadsWell (g : Layout) (image : Image) (l block level digit : ℕ) : Type 0 where
   pub target : ℕ
   pub jump : Holds image (pointer_at block level digit) (Jump target)

@@ -30,7 +30,8 @@ word_bytes n = record { each = λ i. at i }
 words_bytes : (h : List ℕ) (n : ℕ) → AreBytes (digest_bytes h n)
 unfolding digest_bytes
 words_bytes h zero = record { each = λ i. omega arith }
-words_bytes h (suc n) = both_bytes (digest_bytes h n) (to_be_bytes w32 (slice_index h n)) (words_bytes h n) (word_bytes (slice_index h n))
+words_bytes h (suc n) =
+    both_bytes (digest_bytes h n) (to_be_bytes w32 (slice_index h n)) (words_bytes h n) (word_bytes (slice_index h n))
 
 pub digest_is_bytes : (m : List ℕ) → AreBytes (sha256 m)
 unfolding sha256

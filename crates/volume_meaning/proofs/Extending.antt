@@ -84,11 +84,20 @@ taken_on n e taken = λ m below. written_on e (taken m below)
 
 module _ {before before' after after' : Image} (e : Extends before' before) (f : Extends after after') where
   pub unused_further : {g : Layout} {n : ℕ} → IsUnused g before n → IsUnused g before' n
-  unused_further u = record { slot = u.slot; reserve = blank_before e u.reserve; outcome = blank_before e u.outcome; done = blank_before e u.done }
+  unused_further u = record {
+    slot = u.slot;
+    reserve = blank_before e u.reserve;
+    outcome = blank_before e u.outcome;
+    done = blank_before e u.done;
+  }
 
   pub reserved_further : {g : Layout} {n start length : ℕ} → IsReserved g before after n start length
       → IsReserved g before' after' n start length
-  reserved_further r = record { reserves = reserves_on f r.reserves; outcome = blank_before e r.outcome; done = blank_before e r.done }
+  reserved_further r = record {
+    reserves = reserves_on f r.reserves;
+    outcome = blank_before e r.outcome;
+    done = blank_before e r.done;
+  }
 
   pub abandoned_further : {g : Layout} {n start length : ℕ} → IsAbandoned g before after n start length
       → IsAbandoned g before' after' n start length
@@ -100,20 +109,36 @@ module _ {before before' after after' : Image} (e : Extends before' before) (f :
   committed_further c = record { commits = commits_on f c.commits; done = blank_before e c.done }
 
   pub done_slot_on : {g : Layout} {n : ℕ} → IsDoneSlot g after n → IsDoneSlot g after' n
-  done_slot_on d = record { start = d.start; length = d.length; bytes = d.bytes; journal = d.journal; done = done_on f d.done }
+  done_slot_on d = record {
+    start = d.start;
+    length = d.length;
+    bytes = d.bytes;
+    journal = d.journal;
+    done = done_on f d.done;
+  }
 
   pub ended_further : {g : Layout} {n : ℕ} → HasEnded g before after n → HasEnded g before' after' n
   ended_further {g} {n} h = ⊎_elim
-      (λ (a : IsAbandonedSlot g before after n). inl (record { start = a.start; length = a.length; abandoned = abandoned_further a.abandoned }))
+      (λ (a : IsAbandonedSlot g before after n). inl (record {
+        start = a.start;
+        length = a.length;
+        abandoned = abandoned_further a.abandoned;
+      }))
       (λ d. inr (done_slot_on d))
       h
 
   pub horizon_further : {g : Layout} {u : ℕ} → IsHorizon g before after u → IsHorizon g before' after' u
-  horizon_further h = record { most = h.most; below = λ m is. written_on f (h.below m is); free = λ less. blank_before e (h.free less) }
+  horizon_further h = record {
+    most = h.most;
+    below = λ m is. written_on f (h.below m is);
+    free = λ less. blank_before e (h.free less);
+  }
 
   pub ends_on : {g : Layout} {u at : ℕ} → EndsBelow g after u at → EndsBelow g after' u at
   ends_on {g} {u} {at} h = ⊎_elim inl
-      (λ (w : (m : ℕ) × (start : ℕ) × (length : ℕ) × (u ≡ m + 1) × Reserves g after m start length × (at ≡ start + length)). inr (w.0, w.1, w.2, w.3, reserves_on f w.4, w.5))
+      (λ (w : (m : ℕ) × (start : ℕ) × (length : ℕ) × (u ≡ m + 1) × Reserves g after m start length
+      × (at ≡ start + length)).
+      inr (w.0, w.1, w.2, w.3, reserves_on f w.4, w.5))
       h
 
   pub edge_further : {g : Layout} {at : ℕ} → IsEdge g before after at → IsEdge g before' after' at

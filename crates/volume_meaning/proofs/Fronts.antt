@@ -13,7 +13,8 @@ use Rattle.volume_meaning.proofs.Extending.{holds_on}
 pub front_on : {old new : Image} {block place : ℕ} {p : PostingFields} → Extends old new
     → InFront old block place p → InFront new block place p
 front_on e (at_the_start place p is holds) = at_the_start place p is (holds_on e holds)
-front_on e (behind place before p q is rest less holds) = behind place before p q is (front_on e rest) less (holds_on e holds)
+front_on e (behind place before p q is rest less holds) =
+    behind place before p q is (front_on e rest) less (holds_on e holds)
 
 -- the fields of a posting
 abbrev fields_of : RecordCell → PostingFields
@@ -40,7 +41,9 @@ pub rises : {image : Image} {block : ℕ} {j : ℕ} {q : PostingFields} → InFr
 rises (at_the_start place q is holds) i p front less = absurd (omega arith)
 rises {image} {block} (behind place before q r is rest step holds) i p front less =
     ⊎_elim
-    (λ same. let e : r ≡ p = one_posting image (block + i) r p (subst (λ (n : ℕ). Holds image (block + n) (posting_record r)) (sym same) (front_holds rest)) (front_holds front) in
+    (λ same. let e : r ≡ p = one_posting image (block + i) r p
+    (subst (λ (n : ℕ). Holds image (block + n) (posting_record r)) (sym same) (front_holds rest))
+    (front_holds front) in
     let e' : r.key ≡ p.key = ap (λ (f : PostingFields). f.key) e in omega arith)
     (λ differ. ⊎_elim
     (λ below. let h : p.key < r.key = rises rest i p front below in omega arith)

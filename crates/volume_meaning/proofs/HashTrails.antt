@@ -20,17 +20,24 @@ passed_on e p = record {
 
 pub leads_on : {old new : Image} {s : Sought} {node level target : ℕ} → Extends old new
     → LeadsDown old s node level target → LeadsDown new s node level target
-leads_on e l = record { levels = l.levels; child = holds_on e l.child; inside_from = l.inside_from; inside_to = l.inside_to }
+leads_on e l = record {
+  levels = l.levels;
+  child = holds_on e l.child;
+  inside_from = l.inside_from;
+  inside_to = l.inside_to;
+}
 
 pub hash_trail_on : {old new : Image} {s : Sought} {n node level : ℕ} → Extends old new
     → HashTrail old s n node level → HashTrail new s n node level
 hash_trail_on e (here node level bucket) = here node level (holds_on e bucket)
-hash_trail_on e (below node level target passed leads rest) = below node level target (passed_on e passed) (leads_on e leads) (hash_trail_on e rest)
+hash_trail_on e (below node level target passed leads rest) =
+    below node level target (passed_on e passed) (leads_on e leads) (hash_trail_on e rest)
 
 pub passed_to_on : {old new : Image} {s : Sought} {root node level : ℕ} → Extends old new
     → PassedTo old s root node level → PassedTo new s root node level
 passed_to_on e (at_root node level is zero_level) = at_root node level is zero_level
-passed_to_on e (down node level above before next rest passed leads) = down node level above before next (passed_to_on e rest) (passed_on e passed) (leads_on e leads)
+passed_to_on e (down node level above before next rest passed leads) =
+    down node level above before next (passed_to_on e rest) (passed_on e passed) (leads_on e leads)
 
 buckets : (a b : ℕ) (f g : List ℕ) → Bucket a f ≡ Bucket b g → (a ≡ b) × (f ≡ g)
 buckets a b f g e = (cc, cc)
@@ -66,10 +73,14 @@ goes_down body stands (below node level target by leads rest) passed = (target, 
 pub one_hash_trail : {image : Image} {s : Sought} {n node level : ℕ} → HashTrail image s n node level
     → (m : ℕ) (b c : List ℕ) → Stands s.cells image n s.id b → Stands s.cells image m s.id c
     → HashTrail image s m node level → n ≡ m
-one_hash_trail {image} (here node level bucket) m b c stands_n stands_m (here _ _ bucket') = (buckets _ _ _ _ (one_record_holds image _ _ _ bucket bucket')).0
-one_hash_trail (here node level bucket) m b c stands_n stands_m (below _ _ target passed leads rest) = absurd (not_passed b stands_n bucket passed)
-one_hash_trail (below node level target passed leads rest) m b c stands_n stands_m (here _ _ bucket) = absurd (not_passed c stands_m bucket passed)
-one_hash_trail {image} {s} (below node level target passed leads rest) m b c stands_n stands_m (below _ _ target' passed' leads' rest') =
+one_hash_trail {image} (here node level bucket) m b c stands_n stands_m (here _ _ bucket') =
+    (buckets _ _ _ _ (one_record_holds image _ _ _ bucket bucket')).0
+one_hash_trail (here node level bucket) m b c stands_n stands_m (below _ _ target passed leads rest) =
+    absurd (not_passed b stands_n bucket passed)
+one_hash_trail (below node level target passed leads rest) m b c stands_n stands_m (here _ _ bucket) =
+    absurd (not_passed c stands_m bucket passed)
+one_hash_trail {image} {s} (below node level target passed leads rest) m b c stands_n stands_m
+    (below _ _ target' passed' leads' rest') =
     let one : target' ≡ target = one_child leads' leads in
     one_hash_trail rest m b c stands_n stands_m (subst (λ (t : ℕ). HashTrail image s m t (level + 1)) one rest')
 
@@ -78,10 +89,12 @@ pub follows : {image : Image} {s : Sought} {root node level : ℕ} → PassedTo 
     → (n : ℕ) (body : List ℕ) → Stands s.cells image n s.id body
     → HashTrail image s n root 0 → HashTrail image s n node level
 follows {image} {s} (at_root node level is first) n body stands trail =
-    subst (λ (v : ℕ). HashTrail image s n node v) (sym first) (subst (λ (m : ℕ). HashTrail image s n m 0) (sym is) trail)
+    subst (λ (v : ℕ). HashTrail image s n node v) (sym first)
+    (subst (λ (m : ℕ). HashTrail image s n m 0) (sym is) trail)
 follows {image} {s} (down node level above before next rest passed leads) n body stands trail =
     let h = goes_down body stands (follows rest n body stands trail) passed in
-    subst (λ (v : ℕ). HashTrail image s n node v) (sym next) (subst (λ (m : ℕ). HashTrail image s n m (before + 1)) (one_child h.1 leads) h.2)
+    subst (λ (v : ℕ). HashTrail image s n node v) (sym next)
+    (subst (λ (m : ℕ). HashTrail image s n m (before + 1)) (one_child h.1 leads) h.2)
 
 -- where the path is passed up to a blank bucket, no slot that stands with the identifier has a hash trail
 pub none_at_blank_bucket : {image : Image} {s : Sought} {n node level : ℕ} → HashTrail image s n node level
@@ -103,8 +116,10 @@ pub none_at_the_end : {image : Image} {s : Sought} {n node : ℕ} (body : List �
 none_at_the_end body stands trail passed =
     let h = goes_down body stands trail passed in omega (arith, h.1.levels)
 
--- where the bucket at the end of a passed path names a slot that stands with the identifier, it is the one with the hash trail
+-- where the bucket at the end of a passed path names a slot that stands with the identifier, it is the one with the
+-- hash trail
 pub the_found_one : {image : Image} {s : Sought} {n node level : ℕ} → HashTrail image s n node level
     → (m : ℕ) (b c : List ℕ) → Stands s.cells image n s.id b → Stands s.cells image m s.id c
     → Holds image (node + nibble s.digest level) (Bucket m (fingerprint_of s.digest)) → n ≡ m
-the_found_one {image} {s} {n} {node} {level} trail m b c stands_n stands_m bucket = one_hash_trail trail m b c stands_n stands_m (here node level bucket)
+the_found_one {image} {s} {n} {node} {level} trail m b c stands_n stands_m bucket =
+    one_hash_trail trail m b c stands_n stands_m (here node level bucket)

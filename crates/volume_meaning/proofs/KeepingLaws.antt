@@ -24,21 +24,28 @@ is_kept_on {g = g} {d = d} e k = record {
 
 pub kept_on : {cells : ℕ} {old new : Image} {documents : List Document} → Extends old new
     → Kept cells old documents → Kept cells new documents
-kept_on e k = record { layout = k.layout; volume = volume_on e k.volume; each = λ d among. is_kept_on e (k.each d among) }
+kept_on e k = record {
+  layout = k.layout;
+  volume = volume_on e k.volume;
+  each = λ d among. is_kept_on e (k.each d among);
+}
 
 abbrev document : ℕ → List ℕ → List ℕ → Document
 document n id body = record { slot = n; id = id; body = body }
 
 pub documents : (a b : Document) → a.slot ≡ b.slot → a.id ≡ b.id → a.body ≡ b.body → a ≡ b
 documents a b p q r =
-    ap (λ (n : ℕ). document n a.id a.body) p ∙ ap (λ (i : List ℕ). document b.slot i a.body) q ∙ ap (λ (t : List ℕ). document b.slot b.id t) r
+    ap (λ (n : ℕ). document n a.id a.body) p ∙ ap (λ (i : List ℕ). document b.slot i a.body) q
+    ∙ ap (λ (t : List ℕ). document b.slot b.id t) r
 
 pub one_kept : (cells : ℕ) (image : Image) (g : Layout) (d e : Document) → IsKept cells image g d
     → IsKept cells image g e → d.id ≡ e.id → d ≡ e
 one_kept cells image g d e k h same =
     let P : List ℕ → Type 0 = λ id. Stands cells image e.slot id e.body in
     let Q : List ℕ → Type 0 = λ id. HashTrail image (sought_in cells g id) e.slot (root_at g) 0 in
-    let slots : d.slot ≡ e.slot = one_hash_trail k.path e.slot d.body e.body k.stands (subst P (sym same) h.stands) (subst Q (sym same) h.path) in
+    let slots : d.slot ≡ e.slot =
+    one_hash_trail k.path e.slot d.body e.body k.stands (subst P (sym same) h.stands) (subst Q (sym same) h.path) in
     let R : ℕ → Type 0 = λ n. Stands cells image n e.id e.body in
-    let bodies : d.body ≡ e.body = (one_document cells image d.slot d.id d.body e.id e.body k.stands (subst R (sym slots) h.stands)).1 in
+    let bodies : d.body ≡ e.body =
+    (one_document cells image d.slot d.id d.body e.id e.body k.stands (subst R (sym slots) h.stands)).1 in
     documents d e slots same bodies

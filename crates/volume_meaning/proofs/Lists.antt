@@ -32,7 +32,8 @@ from_on : {A : Type 0} → (key : A → ℕ) (from : ℕ) (ds : List A) → Risi
 from_on key from [] rise x (k, low, is) = absurd (omega (arith, low))
 from_on {A} key from (d ∷ ds) rise x has = ⊎_elim
     (λ (same : d ≡ x). subst (λ (e : A). from ≤ key e) same rise.0)
-    (λ (rest : Contains ds x). let h : key d + 1 ≤ key x = from_on key (key d + 1) ds rise.1 x rest in let g = rise.0 in omega arith)
+    (λ (rest : Contains ds x). let h : key d + 1 ≤ key x = from_on key
+    (key d + 1) ds rise.1 x rest in let g = rise.0 in omega arith)
     (among d ds x has)
 
 -- without equal heads
@@ -53,7 +54,8 @@ heads_same key from d ds e es p q f g = ⊎_elim
     let low : key e + 1 ≤ key d = from_on key (key e + 1) es q.1 d behind in
     ⊎_elim
     (λ (same : d ≡ e). same)
-    (λ (after : Contains ds e). let high : key d + 1 ≤ key e = from_on key (key d + 1) ds p.1 e after in absurd (omega arith))
+    (λ (after : Contains ds e). let high : key d + 1 ≤ key e = from_on key
+    (key d + 1) ds p.1 e after in absurd (omega arith))
     (among d ds e (g e (head_in e es))))
     (among e es d (f d (head_in d ds)))
 
@@ -67,7 +69,8 @@ one_list {A} key from (d ∷ ds) (e ∷ es) p q f g =
     let q' : Rising key from (d ∷ es) = subst (λ (x : A). Rising key from (x ∷ es)) (sym same) q in
     let f' : Within (d ∷ ds) (d ∷ es) = subst (λ (x : A). Within (d ∷ ds) (x ∷ es)) (sym same) f in
     let g' : Within (d ∷ es) (d ∷ ds) = subst (λ (x : A). Within (x ∷ es) (d ∷ ds)) (sym same) g in
-    ap (λ (l : List A). d ∷ l) (one_list key (key d + 1) ds es p.1 q'.1 (rest_within key d ds es p.1 f') (rest_within key d es ds q'.1 g'))
+    ap (λ (l : List A). d ∷ l) (one_list key (key d + 1) ds es p.1 q'.1 (rest_within key d ds es p.1 f')
+    (rest_within key d es ds q'.1 g'))
     ∙ ap (λ (x : A). x ∷ es) same
 
 -- documents by slot

@@ -27,7 +27,8 @@ rows_same (suc n) s t same short rows =
     let at : 15 + 15 * k ≡ 15 * (k + 1) = omega arith in
     ap (λ (l : List ℕ). take 15 l) (drop-drop (15 * k) 15 s ∙ ap (λ (m : ℕ). drop m s) at) ∙ rows (k + 1) (omega arith)
     ∙ sym (ap (λ (l : List ℕ). take 15 l) (drop-drop (15 * k) 15 t ∙ ap (λ (m : ℕ). drop m t) at))) in
-    sym (take-append-drop 15 s) ∙ ap (λ (l : List ℕ). take 15 s ++ l) rest ∙ ap (λ (l : List ℕ). l ++ drop 15 t) first ∙ take-append-drop 15 t
+    sym (take-append-drop 15 s) ∙ ap (λ (l : List ℕ). take 15 s ++ l) rest ∙ ap (λ (l : List ℕ). l ++ drop 15 t) first
+    ∙ take-append-drop 15 t
 
 heads : (a b : ℕ) (xs ys : List ℕ) → a ∷ xs ≡ b ∷ ys → (a ≡ b) × (xs ≡ ys)
 heads a b xs ys e = (cc, cc)
@@ -42,7 +43,8 @@ halves a b c d long e = (
 -- a content cell holds one row of bytes
 row_same : (s t : List ℕ) → content_bytes s ≡ content_bytes t → s ≡ t
 row_same s t same =
-    let parts = heads (16 + length s) (16 + length t) (s ++ replicate (15 - length s) 0) (t ++ replicate (15 - length t) 0) same in
+    let parts = heads (16 + length s) (16 + length t) (s ++ replicate (15 - length s) 0)
+    (t ++ replicate (15 - length t) 0) same in
     (halves s (replicate (15 - length s) 0) t (replicate (15 - length t) 0) (omega (arith, parts.0)) parts.1).0
 
 pub reserves : (a b c d : ℕ) → Reserve a b ≡ Reserve c d → (a ≡ c) × (b ≡ d)
@@ -54,10 +56,14 @@ commits a b c d e = (cc, cc)
 pub one_document : (cells : ℕ) (image : Image) (n : ℕ) (a b c d : List ℕ) → Stands cells image n a b
     → Stands cells image n c d → (a ≡ c) × (b ≡ d)
 one_document cells image n a b c d p q =
-    let place = reserves _ _ _ _ (one_record_holds image _ _ _ p.done.commits.reserves.reserve q.done.commits.reserves.reserve) in
+    let place = reserves _ _ _ _ (one_record_holds image _ _ _ p.done.commits.reserves.reserve
+    q.done.commits.reserves.reserve) in
     let sizes = commits _ _ _ _ (one_record_holds image _ _ _ p.done.commits.outcome q.done.commits.outcome) in
-    let at : document_at p.start p.reserved (length (stored_bytes a b)) p.journal ≡ document_at q.start q.reserved (length (stored_bytes c d)) q.journal = cc in
-    let stored : stored_bytes a b ≡ stored_bytes c d = rows_same (cells_for (length (stored_bytes a b))) (stored_bytes a b) (stored_bytes c d) sizes.0 (omega arith)
-    (λ k below. row_same _ _ (some_is _ _ (sym (p.spells k below) ∙ ap (λ (m : ℕ). image (m + k)) at ∙ q.spells k (omega (arith, below, sizes.0))))) in
+    let at : document_at p.start p.reserved (length (stored_bytes a b)) p.journal ≡ document_at q.start q.reserved
+    (length (stored_bytes c d)) q.journal = cc in
+    let stored : stored_bytes a b ≡ stored_bytes c d =
+    rows_same (cells_for (length (stored_bytes a b))) (stored_bytes a b) (stored_bytes c d) sizes.0 (omega arith)
+    (λ k below. row_same _ _ (some_is _ _ (sym (p.spells k below) ∙ ap (λ (m : ℕ). image (m + k)) at
+    ∙ q.spells k (omega (arith, below, sizes.0))))) in
     let parts = heads (length a) (length c) (a ++ b) (c ++ d) stored in
     halves a b c d parts.0 parts.1

@@ -72,7 +72,8 @@ module _ (g : Layout) (stamp : Option ℕ) (body : List ℕ) (n : ℕ) where
       member second there.0 x there.1
 
   -- a document's postings are one row
-  pub one_rows : (first second : List ListedPosting) → ArePostings g stamp body n first → ArePostings g stamp body n second
+  pub one_rows : (first second : List ListedPosting) → ArePostings g stamp body n first
+      → ArePostings g stamp body n second
       → first ≡ second
   one_rows first second a b = one_list number 0 first second
       (rising 0 first (λ i x is. omega arith) (greater first a))

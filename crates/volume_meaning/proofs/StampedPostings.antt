@@ -31,13 +31,15 @@ no_stamp : (seconds : ℕ) → None ≡ Some seconds → ⊥
 no_stamp seconds e = cc
 
 -- without a stamp each posting is one of a word
-of_none : {g : Layout} {body : List ℕ} {n l : ℕ} {p : PostingFields} → IsPostingOf g None body n l p → IsWordPosting g body n l p
+of_none : {g : Layout} {body : List ℕ} {n l : ℕ} {p : PostingFields} → IsPostingOf g None body n l p
+    → IsWordPosting g body n l p
 of_none is = ⊎_elim (λ word. word) (λ t. absurd (no_stamp t.0 t.1)) is
 
 stamp_same : (a b : ℕ) → Some a ≡ Some b → a ≡ b
 stamp_same a b e = cc
 
-module _ (g : Layout) (body : List ℕ) (n seconds : ℕ) (rows : List ListedPosting) (version : g.version ≡ STAMPED_VERSION)
+module _ (g : Layout) (body : List ℕ) (n seconds : ℕ) (rows : List ListedPosting)
+    (version : g.version ≡ STAMPED_VERSION)
     (are : ArePostings g None body n rows) where
   abbrev last : ListedPosting
   last = time_entry g n seconds
@@ -63,7 +65,8 @@ module _ (g : Layout) (body : List ℕ) (n seconds : ℕ) (rows : List ListedPos
       → (a.list < all_lists g) × IsPostingOf g (Some seconds) body n a.list a.posting
   each i a p = ⊎_elim
       (λ (here : slice_get rows i ≡ Some a). ((are.each i a here).0, inl (word i a here)))
-      (λ end. subst (λ (x : ListedPosting). (x.list < all_lists g) × IsPostingOf g (Some seconds) body n x.list x.posting) end.1
+      (λ end. subst (λ (x : ListedPosting). (x.list < all_lists g)
+      × IsPostingOf g (Some seconds) body n x.list x.posting) end.1
       (omega (arith, version), inr (seconds, refl, refl, refl)))
       (either rows last i a p)
 
@@ -73,7 +76,11 @@ module _ (g : Layout) (body : List ℕ) (n seconds : ℕ) (rows : List ListedPos
       (λ (w : IsWordPosting g body n l p).
       let here = are.all l p less (inl w) in
       (here.0, in_front rows last here.0 (record { list = l; posting = p }) here.1))
-      (λ t. (length rows, subst (λ (x : ListedPosting). slice_get (rows ++ last ∷ []) (length rows) ≡ Some x) (sym (the_last t)) (at_end rows last)))
+      (λ t. (
+        length rows,
+        subst (λ (x : ListedPosting). slice_get (rows ++ last ∷ []) (length rows) ≡ Some x)
+            (sym (the_last t)) (at_end rows last),
+      ))
       is
     where
       the_last : ((s : ℕ) × (Some seconds ≡ Some s) × (l ≡ g.lists) × (p ≡ time_posting n s))

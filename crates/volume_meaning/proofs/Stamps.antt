@@ -53,7 +53,8 @@ stands_given g image n None seconds is given = absurd (none_given seconds given)
   where
     none_given : (s : ℕ) → None ≡ Some s → ⊥
     none_given s e = cc
-stands_given g image n (Some s) seconds is given = (is.0, subst (λ (x : ℕ). HasStamp image n x) (some_given s seconds given) is.1)
+stands_given g image n (Some s) seconds is given =
+    (is.0, subst (λ (x : ℕ). HasStamp image n x) (some_given s seconds given) is.1)
   where
     some_given : (a b : ℕ) → Some a ≡ Some b → a ≡ b
     some_given a b e = cc

@@ -27,7 +27,8 @@ rising from (tag ∷ tags) low rise = (
 pub tags_one : (g : Layout) (body : List ℕ) (l : ℕ) (one other : List (List ℕ)) → AreTags g body l one
     → AreTags g body l other → one ≡ other
 tags_one g body l one other a b =
-    one_list number 0 one other (rising 0 one (λ i x is. omega arith) a.rise) (rising 0 other (λ i x is. omega arith) b.rise)
+    one_list number 0 one other (rising 0 one (λ i x is. omega arith) a.rise)
+    (rising 0 other (λ i x is. omega arith) b.rise)
     (λ x has. b.all x (a.each x has)) (λ x has. a.all x (b.each x has))
 
 -- a posting of a list of words is one of a word

@@ -1,5 +1,5 @@
 -- Trails.
-use Rattle.std.proofs.Common.{◌≡◌, ◌<◌, ◌≤◌, ⊎_elim, ℕ, ap, sym, subst, arith}
+use Rattle.std.proofs.Common.{◌≡◌, ◌+◌, ◌<◌, ◌≤◌, ⊎_elim, ℕ, ap, sym, subst, arith}
 use Rattle.std.proofs.lemmas.Bool.{cases_lt}
 use Rattle.cell_types.specs.Image.{Image, Extends}
 use Rattle.cell_types.specs.declared.record_cell.RecordCell.TheVariants.{Jump}
@@ -42,7 +42,8 @@ pub one_target : {image : Image} {from to block k t u : ℕ} → Hop image from 
 one_target {image} {from} {to} {block} {k} {t} {u} h g =
     let same : h.greatest.key ≡ g.greatest.key = ap (λ (p : PostingFields). p.key) (one_place h.full g.full) in
     let spans : (h.level ≡ g.level) × (h.digit ≡ g.digit) =
-    apart g.greatest.key k h.level h.digit g.level g.digit (subst (λ (l : ℕ). InSpan l h.level h.digit k) same h.span) g.span in
+    apart g.greatest.key k h.level h.digit g.level g.digit
+    (subst (λ (l : ℕ). InSpan l h.level h.digit k) same h.span) g.span in
     let at : pointer_at block h.level h.digit ≡ pointer_at block g.level g.digit = omega (arith, spans.0, spans.1) in
     jump_target t u (one_record_holds image (pointer_at block g.level g.digit) (Jump t) (Jump u)
     (subst (λ (c : ℕ). Holds image c (Jump t)) at h.jump) g.jump)
@@ -73,21 +74,22 @@ one_trail {p = p} (here block place is below front) at' q (on _ target hop rest)
 one_trail {p = p} (on block target hop rest) at' q (here _ place is below front) same =
     absurd (not_both p.key below front (sym same) hop)
 one_trail {image} {from} {to} {p = p} (on block target hop rest) at' q (on _ target' hop' rest') same =
-    let one : target ≡ target' = one_target hop (subst (λ (k : ℕ). Hop image from to block k target') (sym same) hop') in
+    let one : target ≡ target' =
+    one_target hop (subst (λ (k : ℕ). Hop image from to block k target') (sym same) hop') in
     one_trail rest at' q (subst (λ (t : ℕ). Trail image from to at' q t) (sym one) rest') same
 
--- what lies in a range lies in a wider one
-pub hop_wider : {image : Image} {from to block k target : ℕ} (from' to' : ℕ) → from' ≤ from → to ≤ to'
+-- a block leads on within each range in which the next block lies
+pub hop_within : {image : Image} {from to block k target : ℕ} (from' to' : ℕ) → from' ≤ target → target + 256 ≤ to'
     → Hop image from to block k target → Hop image from' to' block k target
-hop_wider from' to' p q h = record {
+hop_within from' to' low high h = record {
   greatest = h.greatest;
   full = h.full;
   level = h.level;
   digit = h.digit;
   span = h.span;
   jump = h.jump;
-  inside_from = omega (arith, p, h.inside_from);
-  inside_to = omega (arith, q, h.inside_to);
+  inside_from = low;
+  inside_to = high;
   place = h.place;
   some = h.some;
   in_front = h.in_front;
@@ -95,7 +97,13 @@ hop_wider from' to' p q h = record {
   in_span = h.in_span;
 }
 
+-- what lies in a range lies in a wider one
+pub hop_wider : {image : Image} {from to block k target : ℕ} (from' to' : ℕ) → from' ≤ from → to ≤ to'
+    → Hop image from to block k target → Hop image from' to' block k target
+hop_wider from' to' p q h = hop_within from' to' (omega (arith, p, h.inside_from)) (omega (arith, q, h.inside_to)) h
+
 pub trail_wider : {image : Image} {from to at : ℕ} {p : PostingFields} (from' to' : ℕ) {block : ℕ}
     → from' ≤ from → to ≤ to' → Trail image from to at p block → Trail image from' to' at p block
 trail_wider from' to' f t (here block place is below front) = here block place is below front
-trail_wider from' to' f t (on block target hop rest) = on block target (hop_wider from' to' f t hop) (trail_wider from' to' f t rest)
+trail_wider from' to' f t (on block target hop rest) =
+    on block target (hop_wider from' to' f t hop) (trail_wider from' to' f t rest)

@@ -24,7 +24,8 @@ read : (rule : WordRule) (body : List ℕ) (words : List (List ℕ)) → words_o
 read rule body words is = subst (AreWords rule body) is (words_are_one.read rule body)
 
 accented_folded : words_of Folded accented ≡ codes "a" ∷ codes "b" ∷ []
-unfolding is_alphabetic in_ranges alphabetic_ranges general_category value_in general_category_rows default_case_fold full_folding full_folding_rows words_of encode_utf8
+unfolding is_alphabetic in_ranges alphabetic_ranges general_category value_in general_category_rows default_case_fold
+    full_folding full_folding_rows words_of encode_utf8
 accented_folded = refl
 
 accented_bytes : words_of Ascii accented ≡ accented ∷ []
@@ -32,19 +33,23 @@ unfolding words_of
 accented_bytes = refl
 
 street_folded : words_of Folded street ≡ (codes "m" ++ 0xC3 ∷ 0xBC ∷ codes "ller") ∷ codes "strasse" ∷ []
-unfolding is_alphabetic in_ranges alphabetic_ranges general_category value_in general_category_rows default_case_fold full_folding full_folding_rows words_of encode_utf8
+unfolding is_alphabetic in_ranges alphabetic_ranges general_category value_in general_category_rows default_case_fold
+    full_folding full_folding_rows words_of encode_utf8
 street_folded = refl
 
-street_bytes : words_of Ascii street ≡ (codes "m" ++ 0xC3 ∷ 0x9C ∷ codes "ller") ∷ (codes "stra" ++ 0xC3 ∷ 0x9F ∷ codes "e") ∷ []
+street_bytes : words_of Ascii street ≡ (codes "m" ++ 0xC3 ∷ 0x9C ∷ codes "ller") ∷ (codes
+    "stra" ++ 0xC3 ∷ 0x9F ∷ codes "e") ∷ []
 unfolding words_of
 street_bytes = refl
 
 digits_folded : words_of Folded digits ≡ (0xD9 ∷ 0xA3 ∷ []) ∷ codes "a" ∷ []
-unfolding is_alphabetic in_ranges alphabetic_ranges general_category value_in general_category_rows default_case_fold full_folding full_folding_rows words_of encode_utf8
+unfolding is_alphabetic in_ranges alphabetic_ranges general_category value_in general_category_rows default_case_fold
+    full_folding full_folding_rows words_of encode_utf8
 digits_folded = refl
 
 no_characters_folded : words_of Folded no_characters ≡ codes "b" ∷ codes "c" ∷ []
-unfolding is_alphabetic in_ranges alphabetic_ranges general_category value_in general_category_rows default_case_fold full_folding full_folding_rows words_of encode_utf8
+unfolding is_alphabetic in_ranges alphabetic_ranges general_category value_in general_category_rows default_case_fold
+    full_folding full_folding_rows words_of encode_utf8
 no_characters_folded = refl
 
 pub words_by_value : WordsByValue

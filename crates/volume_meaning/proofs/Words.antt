@@ -31,7 +31,8 @@ pub has_a_byte : (c : ℕ) → 0 < length (encode_utf8 c)
 unfolding encode_utf8
 has_a_byte c = of_four (nat_lt c 128) (nat_lt c 2048) (nat_lt c 65536) _ _ _ _ _ _ _ _
 
-past_a_char : (c : ℕ) (xs : List ℕ) → (length (encode_utf8 c ++ xs) ≡ length (encode_utf8 c) + length xs) × (0 < length (encode_utf8 c))
+past_a_char : (c : ℕ) (xs : List ℕ) → (length (encode_utf8 c ++ xs) ≡ length (encode_utf8 c) + length xs)
+    × (0 < length (encode_utf8 c))
 past_a_char c xs = (length-append (encode_utf8 c) xs, has_a_byte c)
 
 -- the text has a first item
@@ -67,10 +68,17 @@ spelled_some : (rule : WordRule) (u : ℕ) (run : List ℕ) → IsSome (spelled 
 spelled_some Ascii u run = (lowered u, map lowered run, refl)
 spelled_some Folded u run =
     let front : default_case_fold (u ∷ run) ≡ full_fold u ++ default_case_fold run = default_case_fold-cons u run in
-    let whole : encode_utf8_all (default_case_fold (u ∷ run)) ≡ encode_utf8_all (full_fold u) ++ encode_utf8_all (default_case_fold run) =
+    let whole : encode_utf8_all (default_case_fold (u ∷ run)) ≡ encode_utf8_all (full_fold u) ++ encode_utf8_all
+    (default_case_fold run) =
     ap encode_utf8_all front ∙ encodes-append (full_fold u) (default_case_fold run) in
     some_of (encode_utf8_all (default_case_fold (u ∷ run)))
-    (omega (arith, folded_some u (full_folding u), ap length whole, length-append (encode_utf8_all (full_fold u)) (encode_utf8_all (default_case_fold run))))
+    (omega (
+      arith,
+      folded_some u (full_folding u),
+      ap length whole,
+      length-append (encode_utf8_all (full_fold u))
+          (encode_utf8_all (default_case_fold run)),
+    ))
 
 -- a run that ends is one word
 pub ended_some : (xs : List ℕ) → IsSome xs → ended xs ≡ xs ∷ []
@@ -82,13 +90,15 @@ module _ (rule : WordRule) where
   pub read_on : (run units : List ℕ) (u : ℕ) → is_of_word rule u ≡ true
       → words_from rule run (u ∷ units) ≡ words_from rule (run ++ spelled_one rule u) units
   read_on run units u e =
-      ap (λ (d : Bool). if d then words_from rule (run ++ spelled_one rule u) units else ended run ++ words_from rule [] units) e
+      ap (λ (d : Bool). if d then words_from rule (run ++ spelled_one rule u) units else ended run ++ words_from
+      rule [] units) e
 
   -- and where it belongs to none
   pub read_end : (run units : List ℕ) (u : ℕ) → is_of_word rule u ≡ false
       → words_from rule run (u ∷ units) ≡ ended run ++ words_from rule [] units
   read_end run units u e =
-      ap (λ (d : Bool). if d then words_from rule (run ++ spelled_one rule u) units else ended run ++ words_from rule [] units) e
+      ap (λ (d : Bool). if d then words_from rule (run ++ spelled_one rule u) units else ended run ++ words_from
+      rule [] units) e
 
   -- a unit of a gap may come before
   skip : (u : ℕ) (units : List ℕ) (words : List (List ℕ)) → is_of_word rule u ≡ false → AreRuns rule units words
@@ -113,7 +123,8 @@ module _ (rule : WordRule) where
       ([], x, xs, u ∷ units, refl, tt, is, off, refl, rest)
 
   -- what is read behind a run that has begun
-  read_words : (units run : List ℕ) → AreOfWords rule run → AreRuns rule (run ++ units) (words_from rule (spelled rule run) units)
+  read_words : (units run : List ℕ) → AreOfWords rule run
+      → AreRuns rule (run ++ units) (words_from rule (spelled rule run) units)
   read_words [] [] are = subst (λ (l : List ℕ). AreRuns rule [] (ended l)) (sym (spelled_none rule)) tt
   read_words [] (r ∷ run) are =
       subst (λ (l : List (List ℕ)). AreRuns rule ((r ∷ run) ++ []) l)
@@ -121,12 +132,15 @@ module _ (rule : WordRule) where
       ([], r, run, [], refl, tt, are, tt, refl, tt)
   read_words (u ∷ units) run are = elim (bool_cases (is_of_word rule u)) [
     | inl on ↦
-        subst (AreRuns rule (run ++ u ∷ units)) (ap (λ (r : List ℕ). words_from rule r units) (spelled_last rule run u) ∙ sym (read_on (spelled rule run) units u on))
-        (subst (λ (l : List ℕ). AreRuns rule l (words_from rule (spelled rule (run ++ u ∷ [])) units)) (append_assoc run (u ∷ []) units)
+        subst (AreRuns rule (run ++ u ∷ units)) (ap (λ (r : List ℕ). words_from rule r units) (spelled_last rule run u)
+        ∙ sym (read_on (spelled rule run) units u on))
+        (subst (λ (l : List ℕ). AreRuns rule l (words_from rule (spelled rule (run ++ u ∷ [])) units))
+        (append_assoc run (u ∷ []) units)
         (read_words units (run ++ u ∷ []) (units_last run u are on)))
     | inr off ↦
         let none : AreRuns rule units (words_from rule [] units) =
-        subst (λ (r : List ℕ). AreRuns rule units (words_from rule r units)) (spelled_none rule) (read_words units [] tt) in
+        subst (λ (r : List ℕ). AreRuns rule units (words_from rule r units)) (spelled_none rule)
+        (read_words units [] tt) in
         subst (AreRuns rule (run ++ u ∷ units)) (sym (read_end (spelled rule run) units u off))
         (closes u units (words_from rule [] units) off run are (skip u units (words_from rule [] units) off none))
   ]
@@ -164,7 +178,8 @@ module _ (rule : WordRule) where
       ∙ ap (λ (r : List ℕ). words_from rule r ((first ∷ run) ++ rest)) (sym (spelled_none rule))
       ∙ past_run (first ∷ run) rest [] of_words
       ∙ closed_run (spelled rule (first ∷ run)) rest (spelled_some rule first run) apart in
-      ap (λ (v : List ℕ). v ∷ ws) word ∙ ap (λ (l : List (List ℕ)). spelled rule (first ∷ run) ∷ l) (only ws rest are) ∙ sym read
+      ap (λ (v : List ℕ). v ∷ ws) word ∙ ap (λ (l : List (List ℕ)). spelled rule (first ∷ run) ∷ l)
+      (only ws rest are) ∙ sym read
 
 -- bytes that belong to a character that was read are passed
 passes : (more : ℕ) (bytes : List ℕ) → characters_after more bytes ≡ characters_after 0 (drop more bytes)
@@ -182,13 +197,15 @@ reads c (b ∷ bytes) rest scalar e =
     ap (λ d. unit_of d.char ∷ characters_after (more_of d.char d.size) bytes) found in
     let size : suc (length (encode_utf8 c) - 1) ≡ length (encode_utf8 c) = omega (arith, past_a_char c rest) in
     let behind : drop (length (encode_utf8 c) - 1) bytes ≡ rest =
-    ap (λ (n : ℕ). drop n (b ∷ bytes)) size ∙ ap (drop (length (encode_utf8 c))) e ∙ drop-append_seam (encode_utf8 c) rest in
+    ap (λ (n : ℕ). drop n (b ∷ bytes)) size ∙ ap (drop (length (encode_utf8 c))) e
+    ∙ drop-append_seam (encode_utf8 c) rest in
     front ∙ ap (λ (l : List ℕ). c ∷ l) (passes (length (encode_utf8 c) - 1) bytes ∙ ap (characters_after 0) behind)
 
 -- and where none begins one byte is stray
 pub strays : (b : ℕ) (bytes : List ℕ) → (decoded (b ∷ bytes)).char ≡ None
     → characters_after 0 (b ∷ bytes) ≡ stray ∷ characters_after 0 bytes
-strays b bytes none = ap (λ (c : Option ℕ). unit_of c ∷ characters_after (more_of c (decoded (b ∷ bytes)).size) bytes) none
+strays b bytes none =
+    ap (λ (c : Option ℕ). unit_of c ∷ characters_after (more_of c (decoded (b ∷ bytes)).size) bytes) none
 
 none_some : (c : ℕ) → None ≡ Some c → ⊥
 none_some c e = cc
@@ -217,7 +234,8 @@ characters_one (c ∷ cs) bytes (inr (b, rest, e, starts, is, are)) =
 -- one character more is read, or one stray byte
 read_front : (b : ℕ) (bytes : List ℕ)
     → ((rest : List ℕ) → length rest ≤ length bytes → AreCharacters rest (characters_after 0 rest))
-    → (found : Option ℕ) → (decoded (b ∷ bytes)).char ≡ found → AreCharacters (b ∷ bytes) (characters_after 0 (b ∷ bytes))
+    → (found : Option ℕ) → (decoded (b ∷ bytes)).char ≡ found
+    → AreCharacters (b ∷ bytes) (characters_after 0 (b ∷ bytes))
 read_front b bytes behind None is =
     subst (AreCharacters (b ∷ bytes)) (sym (strays b bytes is))
     (inr (b, bytes, refl, none_begins (b ∷ bytes) is, refl, behind bytes (omega arith)))
@@ -233,7 +251,8 @@ characters_read : (n : ℕ) (bytes : List ℕ) → length bytes ≤ n → AreCha
 characters_read n [] short = refl
 characters_read zero (b ∷ bytes) short = absurd (omega (arith, short))
 characters_read (suc n) (b ∷ bytes) short =
-    read_front b bytes (λ rest less. characters_read n rest (omega (arith, less, short))) (decoded (b ∷ bytes)).char refl
+    read_front b bytes (λ rest less. characters_read n rest (omega (arith, less, short)))
+    (decoded (b ∷ bytes)).char refl
 
 units_read : (rule : WordRule) (body : List ℕ) → AreUnits rule body (units_of rule body)
 units_read Ascii body = refl
@@ -249,7 +268,8 @@ words_are_one = record {
   read = λ rule body. (
     units_of rule body,
     units_read rule body,
-    subst (λ (r : List ℕ). AreRuns rule (units_of rule body) (words_from rule r (units_of rule body))) (spelled_none rule)
+    subst (λ (r : List ℕ). AreRuns rule (units_of rule body) (words_from rule r (units_of rule body)))
+        (spelled_none rule)
         (read_words rule (units_of rule body) [] tt),
   );
   one = λ rule body words are.

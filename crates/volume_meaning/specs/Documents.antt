@@ -72,7 +72,8 @@ pub record AreDocuments (cells : ℕ) (image : Image) (documents : List Document
 -- a volume has one list of its documents
 abbrev pub ListsAreOne : Type 0
 ListsAreOne =
-    (cells : ℕ) (image : Image) (one other : List Document) → AreDocuments cells image one → AreDocuments cells image other
+    (cells : ℕ) (image : Image) (one other : List Document) → AreDocuments cells image one
+    → AreDocuments cells image other
     → one ≡ other
 
 -- a document that stands goes on standing, whatever is written into blank cells

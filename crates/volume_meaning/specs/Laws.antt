@@ -33,6 +33,7 @@ pub record SeenFurther : Type 0 where
 
 -- A slot has at most one stamp, and one that states its document has it.
 pub record StampsAreOne : Type 0 where
-  pub one : (g : Layout) (image : Image) (n : ℕ) (a b : Option ℕ) → IsStampOf g image n a → IsStampOf g image n b → a ≡ b
+  pub one : (g : Layout) (image : Image) (n : ℕ) (a b : Option ℕ) → IsStampOf g image n a → IsStampOf g image n b
+      → a ≡ b
   pub some : (g : Layout) (image : Image) (n start length bytes journal : ℕ) → IsLayout g
       → Commits g image n start length bytes journal → (stamp : Option ℕ) × IsStampOf g image n stamp

@@ -12,8 +12,8 @@ pub record IsBlockOf (g : Layout) (image : Image) (l block : ℕ) : Type 0 where
   pub list : l < all_lists g
   pub leads : Leads image (pool_at g) g.cells block (list_at g l)
 
--- The nodes, by their levels: the root, and each target of a well-formed child cell of a node at a level below 63, where
--- the target's cells lie in the pool.
+-- The nodes, by their levels: the root, and each target of a well-formed child cell of a node at a level below 63,
+-- where the target's cells lie in the pool.
 pub data IsNode (g : Layout) (image : Image) : ℕ → ℕ → Type 0 where
   root : (level node : ℕ) → level ≡ 0 → node ≡ root_at g → IsNode g image level node
   under : (level node v above x : ℕ) → level ≡ v + 1 → IsNode g image v above → x < 16 → v < 63

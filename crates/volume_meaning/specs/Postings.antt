@@ -1,5 +1,5 @@
--- The postings of a document: each distinct tag of its words, in the tag's list, and on a volume of stamped documents its
--- time posting, in the time list.
+-- The postings of a document: each distinct tag of its words, in the tag's list, and on a volume of stamped documents
+-- its time posting, in the time list.
 --
 --     hello    SHA-256 begins 2c f2 4d ba 5f b0 a3 0e 26 e8: tag 2cf24dba5fb0, and a30e26e8 modulo the number of lists
 --              is its list
@@ -38,7 +38,8 @@ TagsAreOne =
     (g : Layout) (body : List ℕ) (l : ℕ) (one other : List (List ℕ)) → AreTags g body l one → AreTags g body l other
     → one ≡ other
 
--- The posting is one of a word of slot n's document in list l: its tag's place among the tags is its ordinal, the key is
+-- The posting is one of a word of slot n's document in list l: its tag's place among the tags is its ordinal, the key
+-- is
 -- 256 times the slot and the ordinal, and `last` is the greatest ordinal.
 pub record IsWordPosting (g : Layout) (body : List ℕ) (n l : ℕ) (p : PostingFields) : Type 0 where
   pub list : l < g.lists
@@ -53,8 +54,8 @@ pub record IsWordPosting (g : Layout) (body : List ℕ) (n l : ℕ) (p : Posting
 abbrev pub time_posting : ℕ → ℕ → PostingFields
 time_posting n seconds = record { key = seconds; last = 255; tag = big_bytes 4 n ++ 0 ∷ 0 ∷ [] }
 
--- The posting is one of slot n's document, which has this stamp, in list l: one of a word, or in the time list that of the
--- stamp.
+-- The posting is one of slot n's document, which has this stamp, in list l: one of a word, or in the time list that of
+-- the stamp.
 abbrev pub IsPostingOf : Layout → Option ℕ → List ℕ → ℕ → ℕ → PostingFields → Type 0
 IsPostingOf g stamp body n l p =
     IsWordPosting g body n l p
@@ -74,7 +75,8 @@ abbrev pub ComesBefore : ListedPosting → ListedPosting → Type 0
 ComesBefore a b = (a.list < b.list) ⊎ ((a.list ≡ b.list) × (a.posting.key < b.posting.key))
 
 -- these are the postings of slot n's document, which has this stamp, by list and ordinal; they exist
-pub record ArePostings (g : Layout) (stamp : Option ℕ) (body : List ℕ) (n : ℕ) (rows : List ListedPosting) : Type 0 where
+pub record ArePostings (g : Layout) (stamp : Option ℕ) (body : List ℕ) (n : ℕ)
+    (rows : List ListedPosting) : Type 0 where
   pub exist : HasPostings g body
   pub order : (i j : ℕ) (a b : ListedPosting) → i < j → slice_get rows i ≡ Some a → slice_get rows j ≡ Some b
       → ComesBefore a b

@@ -46,8 +46,8 @@ pub record IsStamped (image : Image) (n : ℕ) : Type 0 where
   pub seconds : ℕ
   pub stamp : HasStamp image n seconds
 
--- slot n states a document of so many stored bytes and a journal of so many cells, which fit into its cells; on a volume
--- of stamped documents it has a stamp
+-- slot n states a document of so many stored bytes and a journal of so many cells, which fit into its cells; on a
+-- volume of stamped documents it has a stamp
 pub record Commits (g : Layout) (image : Image) (n start length bytes journal : ℕ) : Type 0 where
   pub reserves : Reserves g image n start length
   pub outcome : Holds image (outcome_at n) (Commit bytes journal)

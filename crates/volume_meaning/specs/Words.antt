@@ -43,13 +43,14 @@ is_word_character c = is_alphabetic c || general_category_eq (general_category c
 abbrev pub stray : ℕ
 stray = 0xFFFD
 
--- These are the characters of a body: where the UTF-8 of one begins it is read, and reading goes on behind it; where none
--- begins the one byte is stray.
+-- These are the characters of a body: where the UTF-8 of one begins it is read, and reading goes on behind it; where
+-- none begins the one byte is stray.
 abbrev pub AreCharacters : List ℕ → List ℕ → Type 0
 AreCharacters body [] = body ≡ []
 AreCharacters body (c ∷ cs) =
     ((rest : List ℕ) × IsScalar c × (body ≡ encode_utf8 c ++ rest) × AreCharacters rest cs)
-    ⊎ ((byte : ℕ) × (rest : List ℕ) × (body ≡ byte ∷ rest) × StartsWithNoChar body × (c ≡ stray) × AreCharacters rest cs)
+    ⊎ ((byte : ℕ) × (rest : List ℕ) × (body ≡ byte ∷ rest) × StartsWithNoChar body × (c ≡ stray)
+    × AreCharacters rest cs)
 
 -- the units of a body
 abbrev pub AreUnits : WordRule → List ℕ → List ℕ → Type 0
@@ -118,7 +119,8 @@ ended (b ∷ run) = (b ∷ run) ∷ []
 abbrev pub words_from : WordRule → List ℕ → List ℕ → List (List ℕ)
 words_from rule run [] = ended run
 words_from rule run (u ∷ units) =
-    if is_of_word rule u then words_from rule (run ++ spelled_one rule u) units else ended run ++ words_from rule [] units
+    if is_of_word rule u then words_from rule (run ++ spelled_one rule u) units else ended
+    run ++ words_from rule [] units
 
 -- the unit of what was decoded at the front of some bytes
 abbrev pub unit_of : Option ℕ → ℕ

@@ -1,20 +1,21 @@
-//! Laws of where an index leads: posting blocks and their trails, hash nodes and their paths, and the documents that are
-//! kept. Each is a function that does nothing and whose contract is the law.
+//! Laws of where an index leads: posting blocks and their trails, hash nodes and their paths, and the documents that
+//! are kept. Each is a function that does nothing and whose contract is the law.
 //!
-//! **A list** is a tree of blocks of 256 cells: 128 postings with rising keys, and behind them 120 pointers. The block's
-//! greatest key l and the key k that is sought tell which pointer leads on: the distance k - l, to the base 16, has a
-//! first digit (1 to 15) and a level (how many digits are behind it).
+//! **A list** is a tree of blocks of 256 cells: 128 postings with rising keys, and behind them 120 pointers. The
+//! block's greatest key l and the key k that is sought tell which pointer leads on: the distance k - l, to the base 16,
+//! has a first digit (1 to 15) and a level (how many digits are behind it).
 //!
 //!     block at 804, greatest key 32512
 //!       key 32768: distance 256 = 1 * 16^2, pointer (2, 1) in cell 962, for the keys 32768 up to 33023
 //!       key 33040: distance 528 = 2 * 16^2 + 1 * 16, pointer (2, 2) in cell 963, for the keys 33024 up to 33279
 //!
-//! A posting has a **trail** from the list's first block where it stands in a front, the rows of rising keys from place 0
-//! on, or behind pointers that lead to it so. Blocks that are added later lie behind other pointers or in blank cells, so
+//! A posting has a **trail** from the list's first block where it stands in a front, the rows of rising keys from place
+//! 0 on, or behind pointers that lead to it so. Blocks that are added later lie behind other pointers or in blank
+//! cells, so
 //! **a trail stays a trail**, whatever is written.
 //!
-//! **The tree** of identifiers has nodes of 16 buckets and 16 child cells. Level v goes by half byte v of the SHA-256 of
-//! the identifier; an entry goes to the first blank bucket on its path.
+//! **The tree** of identifiers has nodes of 16 buckets and 16 child cells. Level v goes by half byte v of the SHA-256
+//! of the identifier; an entry goes to the first blank bucket on its path.
 //!
 //!     `b`, digest 3e23..:  bucket 3 of the root
 //!     `e`, digest 3f79..:  bucket 3 of the root is written, so bucket 15 of the node that child cell 3 leads to

@@ -5,4 +5,5 @@ use Rattle.hostile_replay.proofs.Rows.{IsSoFar}
 use Rattle.hostile_replay.proofs.replaying.replay.Given as goal
 
 abbrev pub invariant-loop-event : goal.invariant-loop-event
-invariant-loop-event l = IsSoFar (take l.event-index l.events) l.replies.items (memory_of l.initial.device) (memory_of l.device)
+invariant-loop-event l =
+    IsSoFar (take l.event-index l.events) l.replies.items (memory_of l.initial.device) (memory_of l.device)

@@ -4,19 +4,21 @@ use Rattle.cell_types.proofs.Passed.{handed}
 use Rattle.cell_types.specs.Refusals.{refusal_of_fault}
 use Rattle.cell_types.specs.declared.refusal.Refusal.TheVariants.{NoMemory}
 use Rattle.ingest_engine.proofs.Endings.{planned_behind, put, slotless, stampless, unbegun, unplanned, unput, unroomed, unsettled}
-use Rattle.ingest_engine.proofs.Suited.{few_seconds, plan_suits, plans_document}
+use Rattle.ingest_engine.proofs.Suited.{is_plan_for}
 use Rattle.ingest_engine.proofs.ingesting.ingest.Goals as goal
 
 pub returns-in_err-document : goal.returns-in_err-document
 returns-in_err-document g c =
     rw (handed c.from_residual.result NoMemory c.from_residual.ensures.1)
-    (unbegun c.args.id.now c.args.stamp c.args.body.now (g.D.Device.state c.args.device.now) _ c.crashes_leave_whole_slots.ensures refl)
+    (unbegun c.args.id.now c.args.stamp c.args.body.now (g.D.Device.state c.args.device.now) _
+    c.crashes_leave_whole_slots.ensures refl)
 
 pub returns-in_err-ready : goal.returns-in_err-ready
 returns-in_err-ready g c =
     let refusal = c.in_err-ready.field-0.0 in
     rw (handed c.from_residual-in_err-ready.result refusal c.from_residual-in_err-ready.ensures.1)
-    (unsettled c.args.id.now c.args.stamp c.args.body.now _ _ c.crashes_leave_whole_slots.ensures refusal c.in_err-ready.ensures)
+    (unsettled c.args.id.now c.args.stamp c.args.body.now _ _ c.crashes_leave_whole_slots.ensures refusal
+    c.in_err-ready.ensures)
 
 pub returns-in_err-check_stamp : goal.returns-in_err-check_stamp
 returns-in_err-check_stamp g c =
@@ -29,7 +31,8 @@ pub returns-in_err-check_slots : goal.returns-in_err-check_slots
 returns-in_err-check_slots g c =
     let refusal = c.in_err-check_slots.field-0.0 in
     rw (handed c.from_residual-in_err-check_slots.result refusal c.from_residual-in_err-check_slots.ensures.1)
-    (slotless c.args.id.now c.args.stamp c.args.body.now _ _ c.crashes_leave_whole_slots.ensures c.in_ok-ready.ready refusal
+    (slotless c.args.id.now c.args.stamp c.args.body.now _ _ c.crashes_leave_whole_slots.ensures
+    c.in_ok-ready.ready refusal
     c.in_ok-ready.ensures c.in_ok-check_stamp.ensures c.in_err-check_slots.ensures)
 
 pub returns-in_err-index : goal.returns-in_err-index
@@ -55,11 +58,11 @@ returns-in_err-check_room g c =
 pub put_planned-requires-clause-suits : goal.put_planned-requires-clause-suits
 put_planned-requires-clause-suits g c =
     let bounds = c.in_ok-ready.ensures.ends.0 in
-    plan_suits _ c.args.id.now c.args.body.now c.in_ok-document.document c.requires.identifier c.requires.body
-    c.in_ok-document.ensures c.deref.ensures.value refl c.args.stamp refl c.in_ok-index.ensures.ends.planned bounds.layout
-    c.in_ok-check_stamp.ensures (few_seconds c.args.stamp (omega (arith, c.unwrap_or-seconds.ensures))) refl refl
-    c.deref-2.ensures.value bounds.from bounds.to
-    (omega (arith, c.in_ok-check_room.ensures, c.len.ensures, c.len-2.ensures))
+    (is_plan_for _ c.args.id.now c.args.body.now c.in_ok-document.document c.requires.identifier c.requires.body
+    c.in_ok-document.ensures c.deref.ensures.value refl c.args.stamp refl c.in_ok-index.ensures.ends bounds.layout
+    c.in_ok-check_stamp.ensures (omega (arith, c.unwrap_or-seconds.ensures)) refl refl
+    c.deref-2.ensures.value bounds.from
+    bounds.to (omega (arith, c.in_ok-check_room.ensures, c.len.ensures, c.len-2.ensures))).suits
 
 pub returns-in_err-slot : goal.returns-in_err-slot
 returns-in_err-slot g c =
@@ -67,47 +70,31 @@ returns-in_err-slot g c =
     let bounds = c.in_ok-ready.ensures.ends.0 in
     let has = planned_behind c.in_ok-ready.ensures c.in_ok-index.ensures in
     rw (handed c.from_residual-in_err-slot.result (refusal_of_fault fault) c.from_residual-in_err-slot.ensures.1)
-    (unput c.args.id.now c.args.stamp c.args.body.now (g.D.Device.state c.args.device.now) _ c.crashes_leave_whole_slots.ensures
+    (unput c.args.id.now c.args.stamp c.args.body.now (g.D.Device.state c.args.device.now) _
+    c.crashes_leave_whole_slots.ensures
     (g.D.Device.state c.plan_for.new.device) c.in_ok-ready.ready _ bounds.layout c.in_ok-check_stamp.ensures
     c.in_ok-check_slots.ensures has
     (g.met.D.Device.proper c.plan_for.new.device)
-    (record {
-      starts = refl;
-      suits = plan_suits _ c.args.id.now c.args.body.now c.in_ok-document.document c.requires.identifier
-          c.requires.body c.in_ok-document.ensures c.deref.ensures.value refl c.args.stamp refl c.in_ok-index.ensures.ends.planned
-          bounds.layout c.in_ok-check_stamp.ensures (few_seconds c.args.stamp (omega (arith, c.unwrap_or-seconds.ensures))) refl refl c.deref-2.ensures.value bounds.from bounds.to
-          (omega (arith, c.in_ok-check_room.ensures, c.len.ensures, c.len-2.ensures));
-      document = plans_document _ c.args.id.now c.args.body.now c.in_ok-document.document c.requires.identifier
-          c.requires.body c.in_ok-document.ensures c.deref.ensures.value refl c.args.stamp refl;
-      stamped = refl;
-      index = c.in_ok-index.index;
-      has = c.in_ok-index.ensures.ends;
-      blocks = refl;
-      journal = c.deref-2.ensures.value;
-    })
+    (is_plan_for _ c.args.id.now c.args.body.now c.in_ok-document.document c.requires.identifier c.requires.body
+    c.in_ok-document.ensures c.deref.ensures.value refl c.args.stamp refl c.in_ok-index.ensures.ends bounds.layout
+    c.in_ok-check_stamp.ensures (omega (arith, c.unwrap_or-seconds.ensures)) refl refl
+    c.deref-2.ensures.value bounds.from
+    bounds.to (omega (arith, c.in_ok-check_room.ensures, c.len.ensures, c.len-2.ensures)))
     c.in_err-slot.ensures.puts fault (c.in_err-slot.ensures.ends (g.D.Device.state c.args.device.now) has))
 
 pub returns : goal.returns
 returns g c =
     let bounds = c.in_ok-ready.ensures.ends.0 in
     let has = planned_behind c.in_ok-ready.ensures c.in_ok-index.ensures in
-    put c.args.id.now c.args.stamp c.args.body.now (g.D.Device.state c.args.device.now) _ c.crashes_leave_whole_slots.ensures
+    put c.args.id.now c.args.stamp c.args.body.now (g.D.Device.state c.args.device.now) _
+    c.crashes_leave_whole_slots.ensures
     (g.D.Device.state c.plan_for.new.device) c.in_ok-ready.ready _ bounds.layout c.in_ok-check_stamp.ensures
     c.in_ok-check_slots.ensures has
     (g.met.D.Device.proper c.plan_for.new.device)
-    (record {
-      starts = refl;
-      suits = plan_suits _ c.args.id.now c.args.body.now c.in_ok-document.document c.requires.identifier
-          c.requires.body c.in_ok-document.ensures c.deref.ensures.value refl c.args.stamp refl c.in_ok-index.ensures.ends.planned
-          bounds.layout c.in_ok-check_stamp.ensures (few_seconds c.args.stamp (omega (arith, c.unwrap_or-seconds.ensures))) refl refl c.deref-2.ensures.value bounds.from bounds.to
-          (omega (arith, c.in_ok-check_room.ensures, c.len.ensures, c.len-2.ensures));
-      document = plans_document _ c.args.id.now c.args.body.now c.in_ok-document.document c.requires.identifier
-          c.requires.body c.in_ok-document.ensures c.deref.ensures.value refl c.args.stamp refl;
-      stamped = refl;
-      index = c.in_ok-index.index;
-      has = c.in_ok-index.ensures.ends;
-      blocks = refl;
-      journal = c.deref-2.ensures.value;
-    })
+    (is_plan_for _ c.args.id.now c.args.body.now c.in_ok-document.document c.requires.identifier c.requires.body
+    c.in_ok-document.ensures c.deref.ensures.value refl c.args.stamp refl c.in_ok-index.ensures.ends bounds.layout
+    c.in_ok-check_stamp.ensures (omega (arith, c.unwrap_or-seconds.ensures)) refl refl
+    c.deref-2.ensures.value bounds.from
+    bounds.to (omega (arith, c.in_ok-check_room.ensures, c.len.ensures, c.len-2.ensures)))
     c.in_ok-slot.ensures.puts c.in_ok-slot.slot (c.in_ok-slot.ensures.unfailed refl)
     (c.in_ok-slot.ensures.ends (g.D.Device.state c.args.device.now) has)

@@ -31,7 +31,8 @@ loop-left-preserved g c =
       some_more c.args.volume.now.geometry c.args.below c.loop-left.invariant.1 c.loop-left.invariant.0
           c.in_ok-greatest.greatest
           (subst
-          (λ (k : ℕ). AddsStamps c.args.volume.now.geometry first k c.loop-left.greatest (g.V.View.seen c.loop-left.view)
+          (λ (k : ℕ). AddsStamps c.args.volume.now.geometry first k c.loop-left.greatest
+          (g.V.View.seen c.loop-left.view)
           (g.V.View.seen c.with_slots.new.view) (Ok c.in_ok-greatest.greatest))
           (omega (arith, c.min-count.ensures)) c.in_ok-greatest.ensures),
     )

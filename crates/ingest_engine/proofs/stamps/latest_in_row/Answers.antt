@@ -7,7 +7,8 @@ use Rattle.ingest_engine.proofs.stamps.latest_in_row.Goals as goal
 
 pub loop-back-init : goal.loop-back-init
 loop-back-init c = λ old new reads.
-    subst (λ (k : ℕ). AddsStamps c.args.geometry.now k (c.args.first + c.args.count) c.args.greatest old new (Ok c.args.greatest))
+    subst (λ (k : ℕ). AddsStamps c.args.geometry.now k (c.args.first + c.args.count) c.args.greatest old new
+    (Ok c.args.greatest))
     (omega arith)
     (adds_none c.args.geometry.now c.args.greatest reads.viewed reads.faults (c.args.first + c.args.count))
 
@@ -42,5 +43,6 @@ returns-in_err-last c = λ old new reads.
 pub returns : goal.returns
 returns c = λ old new reads.
     subst
-    (λ (k : ℕ). AddsStamps c.args.geometry.now k (c.args.first + c.args.count) c.args.greatest old new (Ok c.loop-back.last))
+    (λ (k : ℕ). AddsStamps c.args.geometry.now k (c.args.first + c.args.count) c.args.greatest old new
+    (Ok c.loop-back.last))
     (omega (arith, c.loop-back-test.false)) (c.loop-back.invariant old new reads)
