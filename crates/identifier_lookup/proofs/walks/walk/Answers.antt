@@ -9,7 +9,7 @@ use Rattle.identifier_lookup.proofs.walks.walk.Goals as goal
 pub loop-step-init : goal.loop-step-init
 loop-step-init g c =
     walk_begins c.args.volume.now.geometry c.args.edge c.args.id.now _ c.start-level.result c.requires.size
-    c.requires.bounds (c.start-level.ensures ∙ ap first_level c.digest-digest.ensures)
+    c.requires.bounds (c.start-level.ensures ∙ ap first_level c.digest_of-digest.ensures)
 
 -- the step gives no answer
 pub returns-in_err-step : goal.returns-in_err-step
@@ -37,7 +37,7 @@ returns-in_err-same g c =
     (compare_fails c.args.volume.now.geometry c.args.horizon c.args.edge c.args.id.now _ _ _ c.loop-step.level _
     c.requires.bounds c.loop-step.invariant _ c.in-Candidate.slot c.in-Candidate.bucket
     (rw c.in-Candidate.is at c.in_ok-step.ensures) c.in_err-same.field-0.0
-    (rw c.digest-digest.ensures at c.in_err-same.ensures))
+    (rw c.digest_of-digest.ensures at c.in_err-same.ensures))
 
 -- it has the identifier
 pub returns-then-same : goal.returns-then-same
@@ -45,7 +45,7 @@ returns-then-same g c =
     walk_finds c.args.volume.now.geometry c.args.horizon c.args.edge c.args.id.now _ _ _ c.loop-step.level _
     c.requires.bounds c.loop-step.invariant _ c.in-Candidate.slot c.in-Candidate.bucket
     (rw c.in-Candidate.is at c.in_ok-step.ensures)
-    (rw c.digest-digest.ensures at (rw c.if-same.true at c.in_ok-same.ensures))
+    (rw c.digest_of-digest.ensures at (rw c.if-same.true at c.in_ok-same.ensures))
 
 -- or another one
 pub loop-step-preserved : goal.loop-step-preserved
@@ -53,4 +53,4 @@ loop-step-preserved g c =
     walk_on c.args.volume.now.geometry c.args.horizon c.args.edge c.args.id.now _ _ _ c.loop-step.level
     c.next_candidate.new.level c.requires.bounds c.loop-step.invariant _ c.in-Candidate.slot c.in-Candidate.bucket
     (rw c.in-Candidate.is at c.in_ok-step.ensures)
-    (rw c.digest-digest.ensures at (rw c.if-same.false at c.in_ok-same.ensures))
+    (rw c.digest_of-digest.ensures at (rw c.if-same.false at c.in_ok-same.ensures))
