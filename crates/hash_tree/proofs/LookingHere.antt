@@ -14,7 +14,7 @@ use Rattle.hash_tree.specs.Looking.{IsCandidateBucket, LooksAtNode, ReadsBucket,
 use Rattle.hash_tree.specs.Steps.{HasNoneLeft}
 use Rattle.hash_tree.specs.declared.level.ChildCell.{ChildCell}
 use Rattle.hash_tree.specs.declared.level.Level.{Level}
-use Rattle.hash_tree.specs.declared.looks.HeldBucket.{HeldBucket}
+use Rattle.volume_meaning.specs.declared.held_bucket.HeldBucket.{HeldBucket}
 use Rattle.hash_tree.specs.declared.looks.Here.TheVariants.{Ends, Leads}
 
 -- the numbers of the two cells

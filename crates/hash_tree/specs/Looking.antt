@@ -9,6 +9,7 @@ use Rattle.cell_types.specs.declared.refusal.Fault.{Fault}
 use Rattle.cell_types.specs.declared.refusal.Fault.TheVariants.{Tampered, Failed}
 use Rattle.volume_meaning.specs.Volumes.{Holds}
 use Rattle.volume_meaning.specs.HashPaths.{fingerprint_of, nibble}
+use Rattle.volume_meaning.specs.declared.held_bucket.HeldBucket.{HeldBucket}
 use Rattle.tamper_rules.specs.declared.numbers.TheConstants.{FAKE_BUCKET, LOST_CHILD}
 use Rattle.worm_device.specs.Counts.{Rose}
 use Rattle.worm_device.specs.Views.{ViewState, Viewed}
@@ -16,7 +17,6 @@ use Rattle.hash_tree.specs.Levels.{bucket_at, child_at}
 use Rattle.hash_tree.specs.Steps.{HasNoneLeft, IsNoBucket, IsNoChild, IsOpenOf}
 use Rattle.hash_tree.specs.declared.level.ChildCell.{ChildCell}
 use Rattle.hash_tree.specs.declared.level.Level.{Level}
-use Rattle.hash_tree.specs.declared.looks.HeldBucket.{HeldBucket}
 use Rattle.hash_tree.specs.declared.looks.Here.{Here}
 use Rattle.hash_tree.specs.declared.looks.Here.TheVariants.{Fits, Ends, Last, Leads}
 

@@ -30,20 +30,18 @@ ghost use Rattle.std.specs.Prelude.{◌≡◌, ◌<◌, ◌≤◌, IsSome};
 ghost use Rattle.cell_pool.specs.Grants.{free_cells};
 ghost use Rattle.cell_types.specs.declared.geometry.TheConstants.{MAX_SLOTS};
 ghost use Rattle.volume_meaning.specs.declared.nodes.TheConstants.{NODE_CELLS};
-ghost use Rattle.volume_meaning.specs.HashPaths.{fingerprint_of};
 ghost use Rattle.cell_pool.specs.declared.planning.PlanFault.TheVariants as plan;
 ghost use Rattle.worm_device.specs.Overlays.{of_overlay};
 ghost use Rattle.hash_tree.specs.Inserting.{InsertsEntry};
 ghost use Rattle.hash_tree.specs.Naming.{BlamesChild};
 ghost use Rattle.hash_tree.specs.Readiness.{IsReadyPlace};
 
-use crate::digests::nibble_of;
 use crate::level::{ChildCell, Level};
 use crate::path::Open;
 use cell_pool::{GrowthFault, PlanFault, Pool, plan_record};
 use cell_types::{RecordCell, Volume, breach};
 use tamper_rules::LOST_CHILD;
-use volume_meaning::NODE_CELLS;
+use volume_meaning::{NODE_CELLS, fingerprint_of, nibble_of};
 use worm_device::{Overlay, Owner, View};
 
 /// Plans the entry of a slot where the path of the level's digest ends, and answers its bucket's cell. Under a child
@@ -72,7 +70,7 @@ pub fn insert<V: View>(
     };
     let entry = RecordCell::Bucket {
         slot,
-        fingerprint: fingerprint(&level.digest),
+        fingerprint: fingerprint_of(&level.digest),
     };
     // Known of a half byte once it is asked for: it is below 16.
     let _half = nibble_of(&level.digest, level.number);
@@ -104,15 +102,6 @@ pub fn insert<V: View>(
         unreachable!()
     };
     Ok(bucket)
-}
-
-/// The first seven bytes of a digest.
-fn fingerprint(digest: &[u8; 32]) -> [u8; 7]
-    ensures { result ≡ fingerprint_of digest.now }
-{
-    let mut first = [0; 7];
-    first.copy_from_slice(&digest[..7]);
-    first
 }
 
 /// Why the first cell of an entry was not planned: where it is taken, its node is not the root.

@@ -22,12 +22,11 @@
 //! **An entry is found.** An insertion reads nothing and writes nothing: it plans a bucket, and where the path ends under
 //! a bucket a new node for it. See `insertion.rt`.
 //!
-//! A step makes at most two reads a level and takes no memory. Stands on `volume_meaning` for the path, on `tamper_rules`
-//! for what a broken rule is, on `worm_device` for views, on `cell_pool` for nodes and planned cells, and on `ingest_laws`
-//! for the tree's shape. Begin with `path.rt`, then `insertion.rt`; `specs/Steps.antt` says what an answer means.
+//! A step makes at most two reads a level and takes no memory. Stands on `volume_meaning` for the path and the parts of a
+//! digest, on `tamper_rules` for what a broken rule is, on `worm_device` for views, on `cell_pool` for nodes and planned
+//! cells, and on `ingest_laws` for the tree's shape. Begin with `path.rt`, then `insertion.rt`; `specs/Steps.antt` says what an answer means.
 #![tactic(auto)]
 
-mod digests;
 mod insertion;
 mod insertion_laws;
 mod laws;
@@ -36,9 +35,9 @@ mod looks;
 mod node_cells;
 mod path;
 
-pub use digests::nibble_of;
 pub use insertion::insert;
 pub use insertion_laws::{passed_is_on_path, taken_is_broken};
 pub use laws::a_step_has_one_answer;
 pub use level::{ChildCell, Level};
 pub use path::{Open, PathStep, next_candidate};
+pub use volume_meaning::nibble_of;

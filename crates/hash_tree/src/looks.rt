@@ -2,13 +2,6 @@
 use crate::level::ChildCell;
 use crate::path::Open;
 
-/// What a bucket holds.
-#[derive(Clone, Copy, Debug, PartialEq, Eq)]
-pub struct HeldBucket {
-    pub slot: u32,
-    pub fingerprint: [u8; 7],
-}
-
 /// What the node's two cells on the path say.
 #[derive(Clone, Copy)]
 pub enum Here {

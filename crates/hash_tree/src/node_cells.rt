@@ -3,13 +3,12 @@ ghost use Rattle.std.specs.Prelude.{◌<◌, ◌≤◌};
 ghost use Rattle.hash_tree.specs.Levels.{AreBounds, IsLevelPlaced};
 ghost use Rattle.hash_tree.specs.Looking.{IsCandidateBucket, LooksAtNode, ReadsBucket, ReadsChild};
 
-use crate::digests::{is_fingerprint, nibble_of};
 use crate::level::{ChildCell, Level};
-use crate::looks::{HeldBucket, Here};
+use crate::looks::Here;
 use crate::path::Open;
 use cell_types::{Fault, RecordCell, Volume, breach};
 use tamper_rules::{FAKE_BUCKET, LOST_CHILD};
-use volume_meaning::NODE_BUCKETS;
+use volume_meaning::{HeldBucket, NODE_BUCKETS, nibble_of};
 use worm_device::{View, record_at};
 
 /// A digest has 64 half bytes.
@@ -62,7 +61,7 @@ fn is_candidate(level: &Level, held: &HeldBucket) -> bool
     if level.answered {
         return false;
     }
-    is_fingerprint(&held.fingerprint, &level.digest)
+    held.has_fingerprint(&level.digest)
 }
 
 /// What a bucket holds, `None` where it is blank. A written cell that is no bucket is evidence.

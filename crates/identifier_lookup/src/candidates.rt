@@ -7,6 +7,7 @@ ghost use Rattle.identifier_lookup.specs.Candidates.{Compares, HoldsNamed, IsNam
 use cell_types::{Evidence, Fault, RecordCell, Volume, encode};
 use document_store::{Part, same_identifier, slot_part};
 use tamper_rules::FAKE_BUCKET;
+use volume_meaning::fingerprint_of;
 use worm_device::View;
 
 /// A bucket with the fingerprint of this digest, which names a slot.
@@ -54,13 +55,9 @@ fn fake_bucket(named: &Named) -> Evidence
     ensures cell { result.cell ≡ named.now.bucket }
     ensures found { IsNamedCell named.now result.found }
 {
-    let digest = &named.digest;
-    let fingerprint = [
-        digest[0], digest[1], digest[2], digest[3], digest[4], digest[5], digest[6],
-    ];
     let bucket = RecordCell::Bucket {
         slot: named.slot,
-        fingerprint,
+        fingerprint: fingerprint_of(&named.digest),
     };
     Evidence {
         rule: FAKE_BUCKET,

@@ -19,7 +19,7 @@
 //!
 //! A walk takes no memory. It makes at most 512 reads besides those of the documents that it compares, and reads each cell
 //! of these once; `specs/Costs.antt` says which they are. Stands on `hash_tree` for the path, on `document_store` for
-//! documents, on `tamper_rules` for what a broken rule is, and on `sha2`. Begin with `walks.rt`; `specs/Walks.antt` says
+//! documents, on `tamper_rules` for what a broken rule is, and on `volume_meaning` for digests. Begin with `walks.rt`; `specs/Walks.antt` says
 //! what an answer means.
 #![tactic(auto)]
 

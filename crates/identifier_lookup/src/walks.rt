@@ -7,7 +7,7 @@ use crate::answers::Walk;
 use crate::candidates::{Named, part_with_identifier};
 use cell_types::{Fault, Volume};
 use hash_tree::{Level, PathStep, next_candidate};
-use sha2::{Digest, Sha256};
+use volume_meaning::digest_of;
 use worm_device::View;
 
 /// The first slot on the path of the identifier's SHA-256 whose document has the identifier, or how the path ends.
@@ -30,7 +30,7 @@ pub fn walk<V: View>(
     requires bounds { AreBounds volume.now.geometry edge }
     ensures { WalksPath volume.now.geometry horizon edge id.now (V.seen view.old) (V.seen view.new) result }
 {
-    let digest = Sha256::digest(id);
+    let digest = digest_of(id);
     let mut level = Level::start(digest);
     loop {
         let step = next_candidate(view, volume, edge, &mut level)?;

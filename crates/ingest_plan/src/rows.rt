@@ -10,7 +10,7 @@ ghost use Rattle.worm_device.specs.Overlays.{of_overlay};
 use cell_pool::{GrowthFault, Pool};
 use cell_types::Geometry;
 use jump_block::Entry;
-use jump_insertion::{NewEntry, insert};
+use jump_insertion::insert;
 use term_tags::ListedPosting;
 use worm_device::{Overlay, View};
 
@@ -50,16 +50,11 @@ fn insert_one<V: View>(
         pool.old.next pool.new.next row.now.posting
         (of_overlay V.seen overlay.old) (of_overlay V.seen overlay.new) result }
 {
-    let entry = NewEntry {
-        key: row.key(),
-        last: row.last(),
-        tag: row.tag(),
-    };
     insert(
         overlay,
         pool,
         geometry.list_at(row.list()),
         geometry.pool_at(),
-        entry,
+        row.posting(),
     )
 }

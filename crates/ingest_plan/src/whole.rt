@@ -7,8 +7,9 @@ ghost use Rattle.worm_device.specs.Overlays.{of_overlay};
 use crate::rows::insert_postings;
 use cell_pool::{GrowthFault, Pool};
 use cell_types::Volume;
-use hash_tree::{Level, Open, nibble_of};
+use hash_tree::{Level, Open};
 use term_tags::ListedPosting;
+use volume_meaning::nibble_of;
 use worm_device::{Overlay, View};
 
 /// Plans the index of a slot's document, over which nothing is planned yet: its postings, each in its list, and then its

@@ -1,5 +1,6 @@
 //! An entry of a block.
-use cell_types::{Cell, RecordCell, encode};
+use cell_types::{Cell, encode};
+use volume_meaning::PostingFields;
 
 /// A posting, and the place of a block at which it stands.
 #[derive(Clone, Copy, Debug, PartialEq, Eq)]
@@ -21,6 +22,17 @@ impl Entry {
     ghost use Rattle.volume_meaning.specs.Blocks.{posting_record};
     ghost use Rattle.jump_block.specs.Entries.{posting_of};
 
+    /// What its posting says.
+    pub fn posting(&self) -> PostingFields
+        ensures { result ≡ posting_of self.now }
+    {
+        PostingFields {
+            key: self.key,
+            last: self.last,
+            tag: self.tag,
+        }
+    }
+
     /// The cell that the entry stands in.
     pub fn cell(&self) -> Cell
         requires inside { self.now.block + self.now.place < 2 ^ 32 }
@@ -28,13 +40,6 @@ impl Entry {
         ensures { result ≡ record_bytes (posting_record (posting_of self.now)) (self.now.block + self.now.place) }
     {
         let at = self.block + u32::from(self.place);
-        encode(
-            RecordCell::Posting {
-                key: self.key,
-                last: self.last,
-                tag: self.tag,
-            },
-            at,
-        )
+        encode(self.posting().to_record(), at)
     }
 }

@@ -17,7 +17,6 @@ use Rattle.jump_block.specs.Pointing.{HasFull, HasPointer}
 use Rattle.cell_pool.specs.declared.fault.GrowthFault.{GrowthFault}
 use Rattle.cell_pool.specs.declared.pool.Pool.{Pool}
 use Rattle.jump_insertion.specs.Growing.{LeadsOnBy, ends, hops, PutsTwo, Grows, in_block, in_tail, in_new_block, IsLastBlock, IsLastFull}
-use Rattle.jump_insertion.specs.Inserting.{fields_of}
 use Rattle.jump_insertion.specs.Placing.{GrowEnds}
 use Rattle.jump_insertion.specs.Planning.{PutsRecord}
 use Rattle.jump_insertion.specs.declared.entries.Spot.{Spot}
@@ -53,8 +52,8 @@ grows_open floor next block place greatest p old mid new owner viewed read put =
 pub grows_both : (pool : Pool) (i : Insertion) (full : Home) (to cost : ℕ) (old mid new : ViewState) (spot : Spot)
     (sees : IsView old) → IsHome old pool i full → IsTarget mid i pool.next to full.visit.block spot → Viewed old mid
     → (IsTrue old.base.tells → mid.image ≡ old.image → IsStill old.base.foreign_writes mid.base.foreign_writes
-    → PutsTwo mid.image new.image full.visit.block spot.block spot.place (fields_of i.entry)
-    → Grows mid.image new.image i.list.floor pool.next to full.visit.block (fields_of i.entry) cost)
+    → PutsTwo mid.image new.image full.visit.block spot.block spot.place i.entry
+    → Grows mid.image new.image i.list.floor pool.next to full.visit.block i.entry cost)
     → (result : Result (Option Spot) GrowthFault) → PutsWithPointer i full spot mid new result
     → GrowsFrom i full.visit pool.next to old new result
 grows_both pool i full to cost old mid new spot sees home target viewed grown (Ok (Some found)) both = λ tells still.
@@ -64,10 +63,10 @@ grows_both pool i full to cost old mid new spot sees home target viewed grown (O
     let same : mid.image ≡ old.image = quiet_image viewed new.base.foreign_writes
     (count_of mid.base new.base both.base) still in
     let P : Image → Type 0 = λ x.
-    Grows x new.image i.list.floor pool.next to full.visit.block (fields_of i.entry) cost in
+    Grows x new.image i.list.floor pool.next to full.visit.block i.entry cost in
     let S : ℕ → Type 0 = λ n. InSpan n full.to.level full.to.digit i.entry.key in
     let pointer : ℕ = pointer_at full.visit.block full.to.level full.to.digit in
-    let puts : PutsTwo mid.image new.image full.visit.block spot.block spot.place (fields_of i.entry) = record {
+    let puts : PutsTwo mid.image new.image full.visit.block spot.block spot.place i.entry = record {
       mid = two.mid.image;
       level = full.to.level;
       digit = full.to.digit;

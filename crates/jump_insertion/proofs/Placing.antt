@@ -28,7 +28,6 @@ use Rattle.cell_pool.specs.declared.fault.GrowthFault.{GrowthFault}
 use Rattle.cell_pool.specs.declared.fault.GrowthFault.TheVariants.{Fault, NoMemory}
 use Rattle.cell_pool.specs.declared.pool.Pool.{Pool}
 use Rattle.jump_insertion.specs.Hopping.{IsAt, IsSpot, HopFaultEnds, TailEnds}
-use Rattle.jump_insertion.specs.Inserting.{fields_of}
 use Rattle.jump_insertion.specs.Placing.{PlacesPosting}
 use Rattle.jump_insertion.specs.Planning.{PutsRecord}
 use Rattle.jump_insertion.specs.Readiness.{IsOwnBlock, IsBlockReached, is_new, a_posting, a_pointer, IsReadyList}
@@ -223,7 +222,7 @@ module _ (pool : Pool) (i : Insertion) (full : Home) (to : ℕ) (old mid new : V
     module _ (put_at : ViewState) (owner home_owner : Owner) (is_head : owner.head ≡ i.list.head)
         (is_base : owner.base ≡ spot.block)
         (is_home_head : home_owner.head ≡ i.list.head) (is_home_base : home_owner.base ≡ full.visit.block)
-        (put : PutsRecord (spot.block + spot.place) (posting_record (fields_of i.entry)) owner mid put_at (Ok tt))
+        (put : PutsRecord (spot.block + spot.place) (posting_record i.entry) owner mid put_at (Ok tt))
         (led : PutsRecord (pointer_at full.visit.block full.to.level full.to.digit) (Jump spot.block) home_owner put_at new
         (Ok tt))
         (tells : IsTrue old.base.tells) where
@@ -244,7 +243,7 @@ module _ (pool : Pool) (i : Insertion) (full : Home) (to : ℕ) (old mid new : V
             (led.others c not_pointer).0 ∙ (put.others c not_at).0 ∙ at_mid;
       }
 
-      holds_new : Holds new.image (spot.block + spot.place) (posting_record (fields_of i.entry))
+      holds_new : Holds new.image (spot.block + spot.place) (posting_record i.entry)
       holds_new = record {
         cell = put.ends.shown.cell;
         stands = (led.others (spot.block + spot.place) (spot_differs tells)).0 ∙ put.ends.shown.stands;
@@ -252,10 +251,10 @@ module _ (pool : Pool) (i : Insertion) (full : Home) (to : ℕ) (old mid new : V
       }
 
       -- the posting is in the target's front
-      into : InFront new.image spot.block spot.place (fields_of i.entry)
+      into : InFront new.image spot.block spot.place i.entry
       into =
           let front_kept : Extends mid.image put_at.image = adding_extends (λ c d. (put.others c d).0) there.blank in
-          next_front new.image spot.block spot.place (fields_of i.entry)
+          next_front new.image spot.block spot.place i.entry
           (λ before h.
           let q = there.rises before h in (
             q.0,
@@ -269,7 +268,7 @@ module _ (pool : Pool) (i : Insertion) (full : Home) (to : ℕ) (old mid new : V
       has : HasKeyIn new.image spot.block full.to.low full.to.high
       has = record {
         place = spot.place;
-        p = (fields_of i.entry);
+        p = i.entry;
         in_places = target.in_places;
         in_front = into;
         from = home.from;
@@ -310,7 +309,7 @@ module _ (pool : Pool) (i : Insertion) (full : Home) (to : ℕ) (old mid new : V
           (omega (arith, greater)) target.inside
           (apart_from_head home.visit.posting.head (inr target.from)) own_target
           (reached_as mid first i.list.head i.list.floor (extends_self mid.lower) refl spot.block there.reached)
-          (a_posting spot.place (fields_of i.entry) refl target.in_places into greater)
+          (a_posting spot.place i.entry refl target.in_places into greater)
 
       own_second : (key : ℕ) → i.entry.key < key → IsOwnBlock second i.list.head full.visit.block
       own_second key greater =
@@ -349,13 +348,13 @@ module _ (pool : Pool) (i : Insertion) (full : Home) (to : ℕ) (old mid new : V
 
       pub placed_hop : Hop new.image i.list.floor to full.visit.block i.entry.key spot.block
       placed_hop =
-          hop_to new.image i.list.floor to full.visit.block full.greatest_key spot.block (fields_of i.entry) full.to
+          hop_to new.image i.list.floor to full.visit.block full.greatest_key spot.block i.entry full.to
           full_new home.span home.from home.below led.ends.shown target.from target.inside has
 
       pub placed_grown : Extends old.image new.image
       placed_grown = grown
 
-      pub placed_into : InFront new.image spot.block spot.place (fields_of i.entry)
+      pub placed_into : InFront new.image spot.block spot.place i.entry
       placed_into = into
 
       pub placed_key : HasKeyIn new.image full.visit.block full.visit.within.low full.visit.within.high

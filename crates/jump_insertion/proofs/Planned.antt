@@ -15,7 +15,7 @@ use Rattle.cell_pool.specs.Grants.{TakesFront}
 use Rattle.cell_pool.specs.declared.pool.Pool.{Pool}
 use Rattle.worm_device.specs.declared.owner.Owner.{Owner}
 use Rattle.cell_pool.specs.declared.fault.GrowthFault.{GrowthFault}
-use Rattle.jump_insertion.specs.Inserting.{IsPlannedInList, IsAsPlanned, PlansEntry, alone, with_pointer, fields_of}
+use Rattle.jump_insertion.specs.Inserting.{IsPlannedInList, IsAsPlanned, PlansEntry, alone, with_pointer}
 use Rattle.jump_insertion.specs.Placing.{HasPlanned, PlannedEnds}
 use Rattle.jump_insertion.specs.Planning.{PutsRecord, PlansTwo}
 use Rattle.jump_insertion.specs.Steps.{PlansCells, PutsWithPointer}
@@ -124,7 +124,7 @@ module _ (pool : Pool) (i : Insertion) (full : Home) (to : ℕ) (old mid new : V
   blank : IsTrue old.base.tells → old.image (spot.block + spot.place) ≡ None
   blank tells = blank_before viewed.image (target.told (subst IsTrue (sym viewed.called.tells) tells)).blank
 
-  module _ (two : PlansTwo spot (pointer_at full.visit.block full.to.level full.to.digit) (fields_of i.entry)
+  module _ (two : PlansTwo spot (pointer_at full.visit.block full.to.level full.to.digit) i.entry
       (record { head = i.list.head; base = spot.block }) (record { head = i.list.head; base = full.visit.block }) mid new)
       (base : new.base ≡ mid.base) where
     later : mid.base.foreign_writes ≤ new.base.foreign_writes
@@ -147,7 +147,7 @@ module _ (pool : Pool) (i : Insertion) (full : Home) (to : ℕ) (old mid new : V
               led.0 ∙ put.0 ∙ (rests_of viewed).shown (still_first viewed.called.foreign_writes later still) cell;
         }
 
-    has_both : HasPlanned i.list.head i.list.floor pool.next to (fields_of i.entry) spot old new
+    has_both : HasPlanned i.list.head i.list.floor pool.next to i.entry spot old new
     has_both =
         let pointer : ℕ = pointer_at full.visit.block full.to.level full.to.digit in
         let led = two.jump.others (spot.block + spot.place) differ in
@@ -198,7 +198,7 @@ module _ (pool : Pool) (i : Insertion) (full : Home) (to : ℕ) (old mid new : V
       → PlansCells i pool.next to old new result
   planned_both (Ok (Some found)) both =
       let P : Spot → Type 0 = λ x.
-      HasPlanned i.list.head i.list.floor pool.next to (fields_of i.entry) x old new in
+      HasPlanned i.list.head i.list.floor pool.next to i.entry x old new in
       subst P (sym both.ends.0) (has_both both.ends.1 both.base)
   planned_both (Ok None) both = tt
   planned_both (Err fault) both = tt

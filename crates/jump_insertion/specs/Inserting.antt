@@ -17,11 +17,6 @@ use Rattle.worm_device.specs.Views.{ViewState, Viewed}
 use Rattle.jump_insertion.specs.Evidence.{ShowsBelow}
 use Rattle.jump_insertion.specs.Growing.{Grows, ListBelow}
 use Rattle.jump_insertion.specs.Readiness.{IsReadyList}
-use Rattle.jump_insertion.specs.declared.entries.NewEntry.{NewEntry}
-
--- the posting of a new entry
-abbrev pub fields_of : NewEntry → PostingFields
-fields_of e = record { key = e.key; last = e.last; tag = e.tag }
 
 -- A record was planned for this list in a cell where nothing was planned and which read blank, in the first block or in
 -- one from the floor on.

@@ -1,17 +1,7 @@
 //! What is inserted, and where.
 
 use jump_block::Span;
-
-/// A posting that is to be inserted.
-#[derive(Clone, Copy)]
-pub struct NewEntry {
-    /// 256 times the slot, plus the ordinal.
-    pub key: u32,
-    /// The greatest ordinal of the slot's document in the list: at least the key modulo 256.
-    pub last: u8,
-    /// The first six bytes of the term's digest.
-    pub tag: [u8; 6],
-}
+use volume_meaning::PostingFields;
 
 /// A place of a block.
 #[derive(Clone, Copy)]
@@ -57,7 +47,7 @@ pub(crate) struct Insertion {
     /// Where the list's blocks lie.
     pub list: ListBlocks,
     /// The posting.
-    pub entry: NewEntry,
+    pub entry: PostingFields,
 }
 
 /// A block that an insertion has come to.

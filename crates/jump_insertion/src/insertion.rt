@@ -3,13 +3,14 @@ ghost use Rattle.std.specs.Prelude.{◌≡◌, ◌<◌, ◌≤◌, ◌+◌, ◌%
 ghost use Rattle.cell_pool.specs.Grants.{TakesFront, free_cells};
 ghost use Rattle.volume_meaning.specs.declared.blocks.TheConstants.{BLOCK_CELLS};
 ghost use Rattle.worm_device.specs.Overlays.{of_overlay};
-ghost use Rattle.jump_insertion.specs.Inserting.{InsertsPosting, fields_of};
+ghost use Rattle.jump_insertion.specs.Inserting.{InsertsPosting};
 ghost use Rattle.jump_insertion.specs.Readiness.{IsReadyList};
 ghost use Rattle.jump_insertion.specs.Steps.{GrowsFrom, PlacesFrom, PlansCells};
 ghost use Rattle.jump_insertion.specs.UnderWay.{IsHome, IsVisit};
 
+use crate::NewEntry;
 use crate::entries::{
-    FullBlock, Home, Insertion, ListBlocks, ListWalk, NewEntry, Spot, TailSearch, TailStep, Visit,
+    FullBlock, Home, Insertion, ListBlocks, ListWalk, Spot, TailSearch, TailStep, Visit,
     WrittenPointer,
 };
 use crate::hops::{check_target, late_posting, tail};
@@ -40,7 +41,7 @@ pub fn insert<V: View>(
     requires ready { IsTrue (of_overlay V.seen overlay.old).base.tells →
         IsReadyList (of_overlay V.seen overlay.old) head floor pool.old.next new_entry.key }
     ensures pool { (pool.new ≡ pool.old) ⊎ TakesFront pool.old pool.new BLOCK_CELLS pool.old.next }
-    ensures inserts { InsertsPosting head floor pool.old.next pool.new.next (fields_of new_entry)
+    ensures inserts { InsertsPosting head floor pool.old.next pool.new.next new_entry
         (of_overlay V.seen overlay.old) (of_overlay V.seen overlay.new) result }
 {
     let all = Span {

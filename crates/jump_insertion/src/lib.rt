@@ -41,9 +41,9 @@ mod puts;
 mod readiness;
 mod spans;
 
-pub use entries::NewEntry;
 pub use insertion::insert;
 pub use laws::{
     evidence_is_licensed, insertions_cost_their_need, insertions_keep_trails, others_stand,
 };
 pub use readiness::{nothing_is_touched, others_stay_untouched, trails_go_on, untouched_is_ready};
+pub use volume_meaning::PostingFields as NewEntry;

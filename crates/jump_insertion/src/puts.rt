@@ -3,16 +3,16 @@ ghost use Rattle.std.specs.Prelude.{◌<◌, ◌≤◌, ◌%◌, IfOk, IsSome};
 ghost use Rattle.cell_types.specs.Records.{IsWellFormed};
 ghost use Rattle.volume_meaning.specs.Blocks.{posting_record};
 ghost use Rattle.worm_device.specs.Overlays.{of_overlay};
-ghost use Rattle.jump_insertion.specs.Inserting.{fields_of};
 ghost use Rattle.jump_insertion.specs.Planning.{PutsRecord};
 ghost use Rattle.jump_insertion.specs.Steps.{PutsWithPointer};
 ghost use Rattle.jump_insertion.specs.UnderWay.{LieInOverlay};
 
-use crate::entries::{Home, Insertion, NewEntry, Spot};
+use crate::entries::{Home, Insertion, Spot};
 use cell_pool::{GrowthFault, PlanFault, plan_record};
 use cell_types::{RecordCell, breach};
 use jump_block::pointer_cell;
 use tamper_rules::BLOCK_OUT_OF_ORDER;
+use volume_meaning::PostingFields;
 use worm_device::{OVERLAY_CELLS, Overlay, Owner, View};
 
 /// Plans a record in a cell that read blank. Where the cell is planned already, that cell is evidence.
@@ -44,20 +44,14 @@ pub(crate) fn put_posting<V: View>(
     overlay: &mut Overlay<'_, V>,
     at: u32,
     owner: Owner,
-    entry: NewEntry,
+    entry: PostingFields,
 ) -> Result<(), GrowthFault>
     requires inside { at < OVERLAY_CELLS }
     requires well_formed { entry.key % 256 ≤ entry.last }
-    ensures { PutsRecord at (posting_record (fields_of entry)) owner
+    ensures { PutsRecord at (posting_record entry) owner
         (of_overlay V.seen overlay.old) (of_overlay V.seen overlay.new) result }
 {
-    let tag = entry.tag;
-    let posting = RecordCell::Posting {
-        key: entry.key,
-        last: entry.last,
-        tag,
-    };
-    put(overlay, at, posting, owner)
+    put(overlay, at, entry.to_record(), owner)
 }
 
 /// Plans a posting at a place of a block, and a pointer to that block in its home.

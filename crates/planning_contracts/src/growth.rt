@@ -4,7 +4,7 @@ ghost use Rattle.cell_pool.specs.Grants.{TakesFront, free_cells};
 ghost use Rattle.cell_types.specs.declared.geometry.TheConstants.{MAX_SLOTS};
 ghost use Rattle.hash_tree.specs.Inserting.{InsertsEntry};
 ghost use Rattle.hash_tree.specs.Readiness.{IsReadyPlace};
-ghost use Rattle.jump_insertion.specs.Inserting.{InsertsPosting, fields_of};
+ghost use Rattle.jump_insertion.specs.Inserting.{InsertsPosting};
 ghost use Rattle.jump_insertion.specs.Readiness.{IsReadyList};
 ghost use Rattle.volume_meaning.specs.declared.blocks.TheConstants.{BLOCK_CELLS};
 ghost use Rattle.volume_meaning.specs.declared.nodes.TheConstants.{NODE_CELLS};
@@ -34,7 +34,7 @@ pub fn insert_posting_again<V: View>(
     requires ready { IsTrue (of_overlay V.seen overlay.old).base.tells →
         IsReadyList (of_overlay V.seen overlay.old) head floor pool.old.next new_entry.key }
     ensures pool { (pool.new ≡ pool.old) ⊎ TakesFront pool.old pool.new BLOCK_CELLS pool.old.next }
-    ensures inserts { InsertsPosting head floor pool.old.next pool.new.next (fields_of new_entry)
+    ensures inserts { InsertsPosting head floor pool.old.next pool.new.next new_entry
         (of_overlay V.seen overlay.old) (of_overlay V.seen overlay.new) result }
 {
     jump_insertion::insert(overlay, pool, head, floor, new_entry)

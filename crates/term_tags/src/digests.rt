@@ -3,14 +3,14 @@ ghost use Rattle.std.specs.Prelude.{◌≡◌, ◌≤◌, ◌<◌, ◌%◌, drop
 ghost use Rattle.byteorder.specs.Endian.{big_number};
 ghost use Rattle.volume_meaning.specs.Postings.{list_of, tag_of};
 
-use sha2::{Digest, Sha256};
+use volume_meaning::digest_of;
 use word_reader::Term;
 
 /// The first six bytes of the term's digest.
 pub fn tag(term: &Term) -> [u8; 6]
     ensures { result ≡ tag_of term.now }
 {
-    let digest = Sha256::digest(term.bytes());
+    let digest = digest_of(term.bytes());
     [
         digest[0], digest[1], digest[2], digest[3], digest[4], digest[5],
     ]
@@ -22,7 +22,7 @@ pub fn list_of(term: &Term, lists: u16) -> u16
     ensures same { result ≡ list_of lists term.now }
     ensures below { result < lists }
 {
-    list_in(&Sha256::digest(term.bytes()), lists)
+    list_in(&digest_of(term.bytes()), lists)
 }
 
 /// Which of so many lists a term of this digest is in.

@@ -5,8 +5,8 @@ ghost use Rattle.term_tags.specs.declared.keys.TheConstants.{PLACES};
 
 use crate::digests;
 use cell_types::{NoMemory, memory};
-use sha2::{Digest, Sha256};
 use std::alloc::Global;
+use volume_meaning::digest_of;
 use word_reader::Term;
 
 /// How many tags there are: six bytes of them.
@@ -20,7 +20,7 @@ fn key_of(term: &Term, lists: u16) -> u64
     requires { 1 ≤ lists }
     ensures { result ≡ key_of lists term.now }
 {
-    let digest = Sha256::digest(term.bytes());
+    let digest = digest_of(term.bytes());
     let tag = u64::from_be_bytes([
         0, 0, digest[0], digest[1], digest[2], digest[3], digest[4], digest[5],
     ]);

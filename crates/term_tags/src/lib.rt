@@ -26,8 +26,9 @@
 //!     list 1    key 66048    last 0      tag 2c26b46b68ff
 //!     list 2    key  1000    last 255    tag 000001020000
 //!
-//! Stands on `word_reader` for terms, on `volume_meaning`, whose `specs/Postings.antt` says which postings a document has,
-//! and on `sha2`. Begin with `digests.rt`, then `rows.rt` and `listing.rt`; `specs/Listing.antt` says what an answer means.
+//! Stands on `word_reader` for terms and on `volume_meaning` for digests, whose `specs/Postings.antt` says which postings
+//! a document has. Begin with `digests.rt`, then `rows.rt` and `listing.rt`; `specs/Listing.antt` says what an answer
+//! means.
 #![tactic(auto)]
 
 mod digests;

@@ -9,15 +9,14 @@ use crate::rows::{Posting, postings};
 use cell_types::{NoMemory, Refusal, memory};
 use std::alloc::Global;
 use std::marker::Model;
+use volume_meaning::PostingFields;
 use word_reader::Term;
 
 /// A posting and its list. Contracts see the definition of one.
 #[derive(Clone, Copy)]
 pub struct ListedPosting {
     list: u16,
-    key: u32,
-    last: u8,
-    tag: [u8; 6],
+    posting: PostingFields,
 }
 
 impl Model for ListedPosting {
@@ -25,9 +24,9 @@ impl Model for ListedPosting {
 
     ghost Value = { paths.ListedPosting };
 
-    ghost view = { λ p. record { list = p.list; posting = record { key = p.key; last = p.last; tag = p.tag } } };
+    ghost view = { λ p. record { list = p.list; posting = p.posting } };
 
-    ghost inverse = { λ v. record { list = v.list; key = v.posting.key; last = v.posting.last; tag = v.posting.tag } };
+    ghost inverse = { λ v. record { list = v.list; posting = v.posting } };
 }
 
 impl ListedPosting {
@@ -40,25 +39,32 @@ impl ListedPosting {
         self.list
     }
 
+    /// What the posting says.
+    pub fn posting(&self) -> PostingFields
+        ensures { result ≡ self.now.posting }
+    {
+        self.posting
+    }
+
     /// 256 times the slot, plus the ordinal; in the time list the stamp, in seconds.
     pub fn key(&self) -> u32
         ensures { result ≡ self.now.posting.key }
     {
-        self.key
+        self.posting.key
     }
 
     /// The greatest ordinal of the document in the list; in the time list 255.
     pub fn last(&self) -> u8
         ensures { result ≡ self.now.posting.last }
     {
-        self.last
+        self.posting.last
     }
 
     /// The first six bytes of the term's digest; in the time list the four bytes of the slot, and two zeros.
     pub fn tag(&self) -> [u8; 6]
         ensures { result ≡ self.now.posting.tag }
     {
-        self.tag
+        self.posting.tag
     }
 }
 
@@ -109,9 +115,11 @@ fn list_one(posting: &Posting, slot: u32) -> ListedPosting
 {
     ListedPosting {
         list: posting.list,
-        key: 256 * slot + u32::from(posting.ordinal),
-        last: posting.last,
-        tag: posting.tag,
+        posting: PostingFields {
+            key: 256 * slot + u32::from(posting.ordinal),
+            last: posting.last,
+            tag: posting.tag,
+        },
     }
 }
 
@@ -122,8 +130,10 @@ fn time_entry(lists: u16, slot: u32, seconds: u32) -> ListedPosting
     let bytes = slot.to_be_bytes();
     ListedPosting {
         list: lists,
-        key: seconds,
-        last: u8::MAX,
-        tag: [bytes[0], bytes[1], bytes[2], bytes[3], 0, 0],
+        posting: PostingFields {
+            key: seconds,
+            last: u8::MAX,
+            tag: [bytes[0], bytes[1], bytes[2], bytes[3], 0, 0],
+        },
     }
 }

@@ -1,15 +1,14 @@
 -- Posting blocks: 128 places for postings, whose keys rise, and behind them 120 places for pointers.
-use Rattle.std.specs.Prelude.{◌≡◌, ◌<◌, ◌≤◌, ◌+◌, ◌*◌, ◌^◌, ℕ, List}
+use Rattle.std.specs.Prelude.{◌≡◌, ◌<◌, ◌≤◌, ◌+◌, ◌*◌, ◌^◌, ℕ}
 use Rattle.cell_types.specs.Image.{Image}
 use Rattle.cell_types.specs.declared.record_cell.RecordCell.TheVariants.{Posting, Jump}
 use Rattle.cell_types.specs.declared.record_cell.RecordCell.{RecordCell}
 use Rattle.volume_meaning.specs.Volumes.{Holds}
+use Rattle.volume_meaning.specs.declared.posting_fields.PostingFields.{PostingFields as Fields}
 
--- what a posting says
-pub record PostingFields : Type 0 where
-  pub key : ℕ
-  pub last : ℕ
-  pub tag : List ℕ
+-- what a posting says: a key, a greatest ordinal and a tag
+abbrev pub PostingFields : Type 0
+PostingFields = Fields
 
 -- and its record
 abbrev pub posting_record : PostingFields → RecordCell

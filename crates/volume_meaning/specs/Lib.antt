@@ -1,5 +1,6 @@
 pub mod BlockLaws
 pub mod Blocks
+pub mod Buckets
 pub mod Documents
 pub mod HashLaws
 pub mod HashPaths

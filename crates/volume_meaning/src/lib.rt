@@ -29,21 +29,27 @@
 //! which names its slot. A document that stands is **kept** if it has a trail for each posting and a hash
 //! trail. It then stays kept, whatever is written later. `path_laws.rt` explains trails, with examples.
 //!
-//! Apart from the laws, the only code is `rule_of` and a few numbers. Stands on `cell_types`, and on
-//! libraries for SHA-256 and letters. Begin with `specs/Volumes.antt`, `Slots`, `Documents` and `Words`, in
+//! Apart from the laws there is little code: `rule_of`, a few numbers, what a posting and a bucket say, and
+//! a digest with its parts. Stands on `cell_types`, and on libraries for SHA-256
+//! and letters. Begin with `specs/Volumes.antt`, `Slots`, `Documents` and `Words`, in
 //! this order; `WordValues` has examples of words. For the index go on with `Blocks`, `Postings`,
 //! `HashPaths`, `Nodes`, `Keeping` and `Nearness`.
 #![tactic(auto)]
 
 mod blocks;
+mod held_bucket;
+mod index_digests;
 mod laws;
 mod limits;
 mod nodes;
 mod path_laws;
+mod posting_fields;
 mod posting_laws;
 mod word_rules;
 
 pub use blocks::{BLOCK_CELLS, ENTRY_PLACES};
+pub use held_bucket::HeldBucket;
+pub use index_digests::{digest_of, fingerprint_of, nibble_of};
 pub use laws::{
     documents_are_one, documents_hold_on, lists_are_one, seen_further, stamps_are_one,
     stands_holds_on, words_are_one, words_by_value,
@@ -54,5 +60,6 @@ pub use path_laws::{
     fronts_rise, hash_trails_are_one, kept_are_apart, kept_holds_on, paths_hold_on,
     spans_are_apart, spans_cover, tags_are_one, trail_holds_on, trails_are_one,
 };
+pub use posting_fields::PostingFields;
 pub use posting_laws::{keys_fit, near_is_one, postings_are_one, stamps_add_one};
 pub use word_rules::{WordRule, rule_of};

@@ -12,7 +12,7 @@ returns-in-Ok g c =
     inserts_alone c.args.volume.now.geometry c.args.level.now c.args.place c.args.slot c.args.pool.now
     (of_overlay g.V.View.seen c.args.overlay.now) view c.requires.ready
     (rw c.nibble_of-half.ensures.same at c.nibble_of-half.ensures.below)
-    (of_overlay g.V.View.seen c.plan_record.new.overlay) c.fingerprint.result c.fingerprint.ensures c.in_default.is
+    (of_overlay g.V.View.seen c.plan_record.new.overlay) c.fingerprint_of.result c.fingerprint_of.ensures c.in_default.is
     (rw (c.root_at-root.ensures.at, c.node.ensures) at c.in-Ok.ensures)
 
 pub returns-in-Err : goal.returns-in-Err
@@ -53,8 +53,8 @@ returns g c =
     (rw c.nibble_of-half.ensures.same at c.nibble_of-half.ensures.below)
     c.grant.new.self (of_overlay g.V.View.seen c.plan_record-2.new.overlay)
     (of_overlay g.V.View.seen c.plan_record-3.new.overlay) c.in-Some.child c.next-node.result
-    (c.next-node.result + c.from.result) c.fingerprint.result
-    (rw c.nibble_of.ensures.same at c.nibble_of.ensures.below) c.fingerprint.ensures c.in-Some.is c.next-node.ensures
+    (c.next-node.result + c.from.result) c.fingerprint_of.result
+    (rw c.nibble_of.ensures.same at c.nibble_of.ensures.below) c.fingerprint_of.ensures c.in-Some.is c.next-node.ensures
     (ap (λ (n : ℕ). c.next-node.result + n) (c.from.ensures ∙ c.nibble_of.ensures.same))
     c.in-Some-grant.ensures.granted.next c.in-Some-grant.ensures.granted.end
     (rw (c.root_at-root.ensures.at, c.node.ensures) at c.in_default-plan_record.ensures)

@@ -9,7 +9,7 @@ use Rattle.identifier_lookup.proofs.walks.walk.Goals as goal
 pub loop-step-init : goal.loop-step-init
 loop-step-init g c =
     walk_begins c.args.volume.now.geometry c.args.edge c.args.id.now _ c.start-level.result c.requires.size
-    c.requires.bounds (c.start-level.ensures ∙ ap first_level c.digest-digest.ensures)
+    c.requires.bounds (c.start-level.ensures ∙ ap first_level c.digest_of-digest.ensures)
 
 -- the step gives no answer
 pub returns-in_err-step : goal.returns-in_err-step
@@ -37,7 +37,7 @@ returns-in_err-found g c =
     (compare_fails c.args.volume.now.geometry c.args.horizon c.args.edge c.args.id.now _ _ _ c.loop-step.level _
     c.requires.bounds c.loop-step.invariant _ c.in-Candidate.slot c.in-Candidate.bucket
     (rw c.in-Candidate.is at c.in_ok-step.ensures) c.in_err-found.field-0.0
-    (rw c.digest-digest.ensures at c.in_err-found.ensures))
+    (rw c.digest_of-digest.ensures at c.in_err-found.ensures))
 
 -- it has the identifier
 pub returns-in-Some : goal.returns-in-Some
@@ -45,7 +45,7 @@ returns-in-Some g c =
     walk_finds c.args.volume.now.geometry c.args.horizon c.args.edge c.args.id.now _ _ _ c.loop-step.level _
     c.requires.bounds c.loop-step.invariant _ c.in-Candidate.slot c.in-Candidate.bucket
     (rw c.in-Candidate.is at c.in_ok-step.ensures) c.in-Some.part
-    (rw c.digest-digest.ensures at (rw c.in-Some.is at c.in_ok-found.ensures))
+    (rw c.digest_of-digest.ensures at (rw c.in-Some.is at c.in_ok-found.ensures))
 
 -- or another one
 pub loop-step-preserved : goal.loop-step-preserved
@@ -53,4 +53,4 @@ loop-step-preserved g c =
     walk_on c.args.volume.now.geometry c.args.horizon c.args.edge c.args.id.now _ _ _ c.loop-step.level
     c.next_candidate.new.level c.requires.bounds c.loop-step.invariant _ c.in-Candidate.slot c.in-Candidate.bucket
     (rw c.in-Candidate.is at c.in_ok-step.ensures)
-    (rw c.digest-digest.ensures at (rw c.in_default.is at c.in_ok-found.ensures))
+    (rw c.digest_of-digest.ensures at (rw c.in_default.is at c.in_ok-found.ensures))

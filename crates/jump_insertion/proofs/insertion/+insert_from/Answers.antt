@@ -10,7 +10,6 @@ use Rattle.worm_device.specs.Overlays.{of_overlay}
 use Rattle.worm_device.proofs.Resting.{viewed_then}
 use Rattle.jump_block.proofs.Knowing.{key_on}
 use Rattle.jump_block.proofs.OneBlock.{level_falls}
-use Rattle.jump_insertion.specs.Inserting.{fields_of}
 use Rattle.jump_insertion.specs.Planning.{PutsRecord}
 use Rattle.jump_insertion.proofs.Adding.{grows_open, grow_then, grow_behind}
 use Rattle.jump_insertion.proofs.Naming.{front_fault, late_fault, pointer_fault, fault_then, check_refused, named_fault, no_key_there, check_on}
@@ -26,7 +25,7 @@ returns-in_err-first-clause-places g t c =
     rw (handed c.from_residual.result (growth.Fault c.in_err-first.field-0.0) c.from_residual.ensures.1)
     (let viewed = c.first_at_least.ensures.viewed in
     read_fault c.args.insertion.list.head c.args.insertion.list.floor c.args.pool.now.next c.args.visit.block
-    (fields_of c.args.insertion.entry) c.args.visit.within.low c.args.visit.within.high (of_overlay g.V.View.seen c.args.overlay.now)
+    c.args.insertion.entry c.args.visit.within.low c.args.visit.within.high (of_overlay g.V.View.seen c.args.overlay.now)
     (of_overlay g.V.View.seen c.first_at_least.new.view) c.in_err-first.field-0.0 viewed
     (front_fault (of_overlay g.V.View.seen c.args.overlay.now) (of_overlay g.V.View.seen c.first_at_least.new.view)
     (is_view g.V.View.seen g.met.V.View.proper c.first_at_least.new.view) c.args.insertion.list.head c.args.insertion.list.floor
@@ -38,7 +37,7 @@ pub returns-in-At-clause-places : goal.returns-in-At-clause-places
 returns-in-At-clause-places g t c =
     let viewed = c.first_at_least.ensures.viewed in
     read_fault c.args.insertion.list.head c.args.insertion.list.floor c.args.pool.now.next c.args.visit.block
-    (fields_of c.args.insertion.entry) c.args.visit.within.low c.args.visit.within.high (of_overlay g.V.View.seen c.args.overlay.now)
+    c.args.insertion.entry c.args.visit.within.low c.args.visit.within.high (of_overlay g.V.View.seen c.args.overlay.now)
     (of_overlay g.V.View.seen c.first_at_least.new.view) c.late_posting.result viewed
     (late_fault (of_overlay g.V.View.seen c.args.overlay.now) (of_overlay g.V.View.seen c.first_at_least.new.view)
     (is_view g.V.View.seen g.met.V.View.proper c.first_at_least.new.view) c.args.insertion.list.head c.args.insertion.list.floor
@@ -49,12 +48,12 @@ returns-in-At-clause-places g t c =
 -- a blank place
 pub returns-in-Open-clause-places : goal.returns-in-Open-clause-places
 returns-in-Open-clause-places g t c =
-    let put = subst (λ n. PutsRecord (c.args.visit.block + n) (posting_record (fields_of c.args.insertion.entry))
+    let put = subst (λ n. PutsRecord (c.args.visit.block + n) (posting_record c.args.insertion.entry)
     (record { head = c.args.insertion.list.head; base = c.args.visit.block })
     (of_overlay g.V.View.seen c.first_at_least.new.view) (of_overlay g.V.View.seen c.put_posting.new.overlay) (Ok tt))
     c.from.ensures c.in_ok-put_posting-in-Open.ensures in
     into_open c.args.insertion.list.head c.args.insertion.list.floor c.args.pool.now.next c.args.visit.block c.args.visit.within.low c.args.visit.within.high
-    c.in-Open.place c.in-Open.field-1 (fields_of c.args.insertion.entry) (of_overlay g.V.View.seen c.args.overlay.now)
+    c.in-Open.place c.in-Open.field-1 c.args.insertion.entry (of_overlay g.V.View.seen c.args.overlay.now)
     (of_overlay g.V.View.seen c.first_at_least.new.view) (of_overlay g.V.View.seen c.put_posting.new.overlay)
     (is_view g.V.View.seen g.met.V.View.proper c.first_at_least.new.view) c.requires.posting.head c.requires.lies
     c.requires.low c.requires.high c.requires.before c.first_at_least.ensures.viewed
@@ -64,7 +63,7 @@ pub returns-in_err-put_posting-in-Open-clause-places : goal.returns-in_err-put_p
 returns-in_err-put_posting-in-Open-clause-places g t c =
     rw (handed c.from_residual-in_err-put_posting-in-Open.result c.in_err-put_posting-in-Open.field-0.0 c.from_residual-in_err-put_posting-in-Open.ensures.1)
     (one_refused c.args.insertion.list.head c.args.insertion.list.floor c.args.pool.now.next c.args.visit.block (c.args.visit.block + c.from.result)
-    (fields_of c.args.insertion.entry) c.args.visit.within.low c.args.visit.within.high (of_overlay g.V.View.seen c.args.overlay.now)
+    c.args.insertion.entry c.args.visit.within.low c.args.visit.within.high (of_overlay g.V.View.seen c.args.overlay.now)
     (of_overlay g.V.View.seen c.first_at_least.new.view) (of_overlay g.V.View.seen c.put_posting.new.overlay)
     (record { head = c.args.insertion.list.head; base = c.args.visit.block })
     c.in_err-put_posting-in-Open.field-0.0 c.first_at_least.ensures.viewed
@@ -79,7 +78,7 @@ returns-in_err-put_posting-in-Open-clause-places g t c =
 pub returns-then-from-within-clause-places : goal.returns-then-from-within-clause-places
 returns-then-from-within-clause-places g t c =
     no_key_here c.args.insertion.list.head c.args.insertion.list.floor c.args.pool.now.next c.args.visit.block c.in-Full.l
-    (fields_of c.args.insertion.entry) c.args.visit.within.low c.args.visit.within.high (of_overlay g.V.View.seen c.args.overlay.now)
+    c.args.insertion.entry c.args.visit.within.low c.args.visit.within.high (of_overlay g.V.View.seen c.args.overlay.now)
     (of_overlay g.V.View.seen c.first_at_least.new.view) c.first_at_least.ensures.viewed
     (λ tells. (rw c.in-Full.is at c.in_ok-first.ensures).ends.1 tells)
     (omega (arith, c.if-from-within.true, c.from-2.ensures))
@@ -91,7 +90,7 @@ returns-in_err-led-clause-places g t c =
     (let viewed = viewed_then c.first_at_least.ensures.viewed c.pointer.ensures.viewed in
     let is = c.span-to.ensures.is in
     read_fault c.args.insertion.list.head c.args.insertion.list.floor c.args.pool.now.next c.args.visit.block
-    (fields_of c.args.insertion.entry) c.args.visit.within.low c.args.visit.within.high (of_overlay g.V.View.seen c.args.overlay.now)
+    c.args.insertion.entry c.args.visit.within.low c.args.visit.within.high (of_overlay g.V.View.seen c.args.overlay.now)
     (of_overlay g.V.View.seen c.pointer.new.view) c.in_err-led.field-0.0 viewed
     (fault_then c.args.insertion.list.head c.args.insertion.list.floor c.args.insertion.entry.key (of_overlay g.V.View.seen c.args.overlay.now)
     (of_overlay g.V.View.seen c.first_at_least.new.view)
@@ -124,7 +123,7 @@ insert_behind-requires g t c =
 pub returns-in_default-clause-places : goal.returns-in_default-clause-places
 returns-in_default-clause-places g t c =
     place_then c.args.insertion.list.head c.args.insertion.list.floor c.insert_behind.new.pool.next c.args.visit.block
-    (fields_of c.args.insertion.entry) c.args.visit.within.low c.args.visit.within.high (of_overlay g.V.View.seen c.args.overlay.now)
+    c.args.insertion.entry c.args.visit.within.low c.args.visit.within.high (of_overlay g.V.View.seen c.args.overlay.now)
     (of_overlay g.V.View.seen c.pointer.new.view) (of_overlay g.V.View.seen c.insert_behind.new.overlay)
     (viewed_then c.first_at_least.ensures.viewed c.pointer.ensures.viewed)
     c.insert_behind.result c.insert_behind.ensures.places
@@ -147,7 +146,7 @@ returns-in_err-check_target-clause-places g t c =
     rw (handed c.from_residual-in_err-check_target.result (growth.Fault c.in_err-check_target.field-0.0) c.from_residual-in_err-check_target.ensures.1)
     (let viewed = viewed_then c.first_at_least.ensures.viewed c.pointer.ensures.viewed in
     read_fault c.args.insertion.list.head c.args.insertion.list.floor c.args.pool.now.next c.args.visit.block
-    (fields_of c.args.insertion.entry) c.args.visit.within.low c.args.visit.within.high (of_overlay g.V.View.seen c.args.overlay.now)
+    c.args.insertion.entry c.args.visit.within.low c.args.visit.within.high (of_overlay g.V.View.seen c.args.overlay.now)
     (of_overlay g.V.View.seen c.pointer.new.view) c.in_err-check_target.field-0.0 viewed
     (check_refused c.args.insertion.list.head c.args.insertion.list.floor c.args.pool.now.next c.args.insertion.entry.key c.args.visit.block c.in-Some.target
     c.span-to.result (of_overlay g.V.View.seen c.args.overlay.now)
@@ -187,7 +186,7 @@ returns-clause-places g t c =
     let read = (rw c.in-Full.is at c.in_ok-first.ensures).ends in
     let more = pool_next c.args.pool.now c.insert_from.new.pool c.insert_from.ensures.pool in
     into_target c.args.insertion.list.head c.args.insertion.list.floor c.insert_from.new.pool.next c.args.visit.block c.in-Full.l c.args.visit.within.low
-    c.args.visit.within.high c.in-Some.target (fields_of c.args.insertion.entry) c.span-to.result
+    c.args.visit.within.high c.in-Some.target c.args.insertion.entry c.span-to.result
     (of_overlay g.V.View.seen c.args.overlay.now) (of_overlay g.V.View.seen c.pointer.new.view)
     (of_overlay g.V.View.seen c.insert_from.new.overlay) c.in-Some-placed.spot
     (omega (arith, c.if-from-within.false, c.from-2.ensures)) read.0 c.requires.high
@@ -206,7 +205,7 @@ returns-in_default-placed-clause-places g t c =
     let done = (rw c.in_default-placed.is at c.in_ok-placed.ensures.places).ends in
     let all = viewed_then viewed done.0 in
     read_fault c.args.insertion.list.head c.args.insertion.list.floor c.insert_from.new.pool.next c.args.visit.block
-    (fields_of c.args.insertion.entry) c.args.visit.within.low c.args.visit.within.high (of_overlay g.V.View.seen c.args.overlay.now)
+    c.args.insertion.entry c.args.visit.within.low c.args.visit.within.high (of_overlay g.V.View.seen c.args.overlay.now)
     (of_overlay g.V.View.seen c.insert_from.new.overlay) c.leads_nowhere.result all
     (named_fault c.args.insertion.list.head c.args.insertion.list.floor c.args.insertion.entry.key c.args.visit.block c.span-to.result.level c.span-to.result.digit
     c.in-Some.target (of_overlay g.V.View.seen c.args.overlay.now)
@@ -232,30 +231,30 @@ pub returns-in_err-placed-clause-places : goal.returns-in_err-placed-clause-plac
 returns-in_err-placed-clause-places g t c =
     rw (handed c.from_residual-in_err-placed.result c.in_err-placed.field-0.0 c.from_residual-in_err-placed.ensures.1)
     (place_then c.args.insertion.list.head c.args.insertion.list.floor c.insert_from.new.pool.next c.args.visit.block
-    (fields_of c.args.insertion.entry) c.args.visit.within.low c.args.visit.within.high (of_overlay g.V.View.seen c.args.overlay.now)
+    c.args.insertion.entry c.args.visit.within.low c.args.visit.within.high (of_overlay g.V.View.seen c.args.overlay.now)
     (of_overlay g.V.View.seen c.pointer.new.view) (of_overlay g.V.View.seen c.insert_from.new.overlay)
     (viewed_then c.first_at_least.ensures.viewed c.pointer.ensures.viewed)
     (Err c.in_err-placed.field-0.0)
     (refused_behind c.args.insertion.list.head c.args.insertion.list.floor c.insert_from.new.pool.next c.args.visit.block c.in-Some.target
-    c.span-to.result.low c.span-to.result.high (fields_of c.args.insertion.entry) c.args.visit.within.low c.args.visit.within.high
+    c.span-to.result.low c.span-to.result.high c.args.insertion.entry c.args.visit.within.low c.args.visit.within.high
     (of_overlay g.V.View.seen c.pointer.new.view) (of_overlay g.V.View.seen c.insert_from.new.overlay)
     c.in_err-placed.field-0.0 c.in_err-placed.ensures.places))
 
 pub returns-in-Open-clause-grows : goal.returns-in-Open-clause-grows
 returns-in-Open-clause-grows g t c =
-    let put = subst (λ n. PutsRecord (c.args.visit.block + n) (posting_record (fields_of c.args.insertion.entry))
+    let put = subst (λ n. PutsRecord (c.args.visit.block + n) (posting_record c.args.insertion.entry)
     (record { head = c.args.insertion.list.head; base = c.args.visit.block })
     (of_overlay g.V.View.seen c.first_at_least.new.view) (of_overlay g.V.View.seen c.put_posting.new.overlay) (Ok tt))
     c.from.ensures c.in_ok-put_posting-in-Open.ensures in
     grows_open c.args.insertion.list.floor c.args.pool.now.next c.args.visit.block c.in-Open.place c.in-Open.field-1
-    (fields_of c.args.insertion.entry) (of_overlay g.V.View.seen c.args.overlay.now)
+    c.args.insertion.entry (of_overlay g.V.View.seen c.args.overlay.now)
     (of_overlay g.V.View.seen c.first_at_least.new.view) (of_overlay g.V.View.seen c.put_posting.new.overlay)
     (record { head = c.args.insertion.list.head; base = c.args.visit.block }) c.first_at_least.ensures.viewed
     (rw c.in-Open.is at c.in_ok-first.ensures).ends put
 
 pub returns-in_default-clause-grows : goal.returns-in_default-clause-grows
 returns-in_default-clause-grows g t c =
-    grow_then c.args.insertion.list.floor c.args.pool.now.next c.insert_behind.new.pool.next c.args.visit.block (fields_of c.args.insertion.entry)
+    grow_then c.args.insertion.list.floor c.args.pool.now.next c.insert_behind.new.pool.next c.args.visit.block c.args.insertion.entry
     (of_overlay g.V.View.seen c.args.overlay.now) (of_overlay g.V.View.seen c.pointer.new.view)
     (of_overlay g.V.View.seen c.insert_behind.new.overlay)
     (viewed_then c.first_at_least.ensures.viewed c.pointer.ensures.viewed)
@@ -268,7 +267,7 @@ returns-clause-grows g t c =
     let checked = c.in_ok-check_target.ensures in
     let read = (rw c.in-Full.is at c.in_ok-first.ensures).ends in
     grow_behind c.args.insertion.list.floor c.args.pool.now.next c.insert_from.new.pool.next c.args.visit.block c.in-Full.l
-    c.in-Some.target (fields_of c.args.insertion.entry) c.span-to.result
+    c.in-Some.target c.args.insertion.entry c.span-to.result
     (of_overlay g.V.View.seen c.args.overlay.now) (of_overlay g.V.View.seen c.pointer.new.view)
     (of_overlay g.V.View.seen c.insert_from.new.overlay) c.in-Some-placed.spot c.span-to.ensures.is
     c.span-to.ensures.low c.span-to.ensures.high checked.0 checked.1
@@ -282,15 +281,15 @@ pub returns-in-Open-clause-planned : goal.returns-in-Open-clause-planned
 returns-in-Open-clause-planned g t c =
     let viewed = c.first_at_least.ensures.viewed in
     let read = (rw c.in-Open.is at c.in_ok-first.ensures).ends in
-    let put = subst (λ n. PutsRecord (c.args.visit.block + n) (posting_record (fields_of c.args.insertion.entry))
+    let put = subst (λ n. PutsRecord (c.args.visit.block + n) (posting_record c.args.insertion.entry)
     (record { head = c.args.insertion.list.head; base = c.args.visit.block })
     (of_overlay g.V.View.seen c.first_at_least.new.view) (of_overlay g.V.View.seen c.put_posting.new.overlay) (Ok tt))
     c.from.ensures c.in_ok-put_posting-in-Open.ensures in
     has_planned_then (of_overlay g.V.View.seen c.args.overlay.now)
     (of_overlay g.V.View.seen c.first_at_least.new.view)
     (of_overlay g.V.View.seen c.put_posting.new.overlay) viewed (writes_on put.base) c.args.insertion.list.head c.args.insertion.list.floor
-    c.args.pool.now.next c.args.pool.now.next (fields_of c.args.insertion.entry) (Ok (Some (record { block = c.args.visit.block; place = c.in-Open.place })))
-    (planned_alone c.args.insertion.list.head c.args.insertion.list.floor c.args.pool.now.next (fields_of c.args.insertion.entry)
+    c.args.pool.now.next c.args.pool.now.next c.args.insertion.entry (Ok (Some (record { block = c.args.visit.block; place = c.in-Open.place })))
+    (planned_alone c.args.insertion.list.head c.args.insertion.list.floor c.args.pool.now.next c.args.insertion.entry
     (of_overlay g.V.View.seen c.first_at_least.new.view) (of_overlay g.V.View.seen c.put_posting.new.overlay)
     (record { block = c.args.visit.block; place = c.in-Open.place }) read.0 c.requires.before c.requires.lies
     (λ told. (read.1 (subst IsTrue viewed.called.tells told)).0)
@@ -303,7 +302,7 @@ returns-in_default-clause-planned g t c =
     (viewed_then c.first_at_least.ensures.viewed c.pointer.ensures.viewed)
     c.insert_behind.ensures.places.called.foreign_writes
     c.args.insertion.list.head c.args.insertion.list.floor c.args.pool.now.next c.insert_behind.new.pool.next
-    (fields_of c.args.insertion.entry) c.insert_behind.result c.insert_behind.ensures.planned
+    c.args.insertion.entry c.insert_behind.result c.insert_behind.ensures.planned
 
 pub returns-clause-planned : goal.returns-clause-planned
 returns-clause-planned g t c =
@@ -311,7 +310,7 @@ returns-clause-planned g t c =
     (of_overlay g.V.View.seen c.insert_from.new.overlay)
     (viewed_then c.first_at_least.ensures.viewed c.pointer.ensures.viewed)
     c.insert_from.ensures.places.called.foreign_writes
-    c.args.insertion.list.head c.args.insertion.list.floor c.args.pool.now.next c.insert_from.new.pool.next (fields_of c.args.insertion.entry)
+    c.args.insertion.list.head c.args.insertion.list.floor c.args.pool.now.next c.insert_from.new.pool.next c.args.insertion.entry
     (Ok (Some c.in-Some-placed.spot))
     (rw c.in-Some-placed.is at c.in_ok-placed.ensures.planned)
 

@@ -2,7 +2,6 @@
 use Rattle.std.proofs.Common.{arith, inl, refl}
 use Rattle.cell_types.proofs.Passed.{handed}
 use Rattle.worm_device.specs.Overlays.{of_overlay}
-use Rattle.jump_insertion.specs.Inserting.{fields_of}
 use Rattle.jump_insertion.proofs.Inserting.{at_head, inserted, refused}
 use Rattle.jump_insertion.proofs.Showing.{is_view}
 use Rattle.jump_insertion.proofs.insertion.insert.Goals as goal
@@ -30,7 +29,7 @@ insert_from-requires g c = record {
 pub returns-clause-inserts : goal.returns-clause-inserts
 returns-clause-inserts g c =
     inserted c.args.head c.args.floor c.args.pool.now.next c.insert_from.new.pool.next 0 4294967296
-    (fields_of c.args.new_entry)
+    c.args.new_entry
     (of_overlay g.V.View.seen c.args.overlay.now) (of_overlay g.V.View.seen c.insert_from.new.overlay) c.in-Some.spot
     (omega (arith, c.requires.floor, c.requires.fresh))
     (rw c.in-Some.is at c.in_ok-placed.ensures.places)
@@ -41,6 +40,6 @@ pub returns-in_err-placed-clause-inserts : goal.returns-in_err-placed-clause-ins
 returns-in_err-placed-clause-inserts g c =
     rw (handed c.from_residual.result c.in_err-placed.field-0.0 c.from_residual.ensures.1)
     (refused c.args.head c.args.floor c.args.pool.now.next c.insert_from.new.pool.next 0 4294967296
-    (fields_of c.args.new_entry)
+    c.args.new_entry
     (of_overlay g.V.View.seen c.args.overlay.now) (of_overlay g.V.View.seen c.insert_from.new.overlay) c.in_err-placed.field-0.0
     (is_view g.V.View.seen g.met.V.View.proper c.insert_from.new.overlay) c.in_err-placed.ensures.places)

@@ -4,7 +4,6 @@ use Rattle.cell_types.proofs.Passed.{handed}
 use Rattle.cell_pool.specs.declared.fault.GrowthFault.TheVariants as growth
 use Rattle.cell_types.specs.Image.{Image}
 use Rattle.worm_device.specs.Overlays.{of_overlay}
-use Rattle.jump_insertion.specs.Inserting.{fields_of}
 use Rattle.jump_insertion.proofs.Adding.{grows_both, grown_in_tail, grown_in_new}
 use Rattle.jump_insertion.proofs.Lasting.{is_last, is_last_full}
 use Rattle.jump_insertion.proofs.Placing.{both_places, new_target, read_fault, tail_target}
@@ -17,7 +16,7 @@ pub returns-in_err-found-clause-places : goal.returns-in_err-found-clause-places
 returns-in_err-found-clause-places g c =
     rw (handed c.from_residual.result (growth.Fault c.in_err-found.field-0.0) c.from_residual.ensures.1)
     (read_fault c.args.insertion.list.head c.args.insertion.list.floor c.args.pool.now.next c.args.home.visit.block
-    (fields_of c.args.insertion.entry) c.args.home.visit.within.low c.args.home.visit.within.high
+    c.args.insertion.entry c.args.home.visit.within.low c.args.home.visit.within.high
     (of_overlay g.V.View.seen c.args.overlay.now) (of_overlay g.V.View.seen c.tail.new.overlay)
     c.in_err-found.field-0.0 c.in_err-found.ensures.finds.viewed c.in_err-found.ensures.finds.ends)
 
@@ -63,7 +62,7 @@ returns-in_default-clause-grows g c =
     (of_overlay g.V.View.seen c.args.overlay.now) (of_overlay g.V.View.seen c.tail.new.overlay) view home viewed granted)
     viewed
     (λ tells same still puts. grown_in_new c.args.insertion.list.floor c.args.pool.now.next c.grant.new.self.next
-    c.args.home.visit.block c.in-Some-grant.target (fields_of c.args.insertion.entry)
+    c.args.home.visit.block c.in-Some-grant.target c.args.insertion.entry
     (of_overlay g.V.View.seen c.tail.new.overlay) (of_overlay g.V.View.seen c.put_both.new.overlay)
     granted.first granted.next
     (λ x past. view.beyond x (ap (λ (f : Image). f x) viewed.planned ∙ posting.free x past)
@@ -90,7 +89,7 @@ returns-clause-grows g c =
     (is_view g.V.View.seen g.met.V.View.proper c.tail.new.overlay) viewed found)
     viewed
     (λ tells same still puts. grown_in_tail c.args.insertion.list.floor c.args.pool.now.next c.args.home.visit.block
-    (fields_of c.args.insertion.entry)
+    c.args.insertion.entry
     (of_overlay g.V.View.seen c.tail.new.overlay) (of_overlay g.V.View.seen c.put_both-2.new.overlay) c.in-Some.spot
     (led tells) found.1 found.2
     (is_last c.args.insertion.list.floor c.args.pool.now.next c.args.home.visit.block c.args.home.greatest_key

@@ -4,7 +4,6 @@ use Rattle.cell_types.proofs.Passed.{handed}
 use Rattle.cell_types.specs.declared.record_cell.RecordCell.TheVariants.{Jump}
 use Rattle.volume_meaning.specs.Blocks.{posting_record, pointer_at}
 use Rattle.worm_device.specs.Overlays.{of_overlay}
-use Rattle.jump_insertion.specs.Inserting.{fields_of}
 use Rattle.jump_insertion.specs.Planning.{PutsRecord}
 use Rattle.jump_insertion.proofs.Putting.{both_put, first_refused, second_refused}
 use Rattle.jump_insertion.proofs.puts.put_both.Goals as goal
@@ -43,9 +42,9 @@ pub returns-in_err-put_posting-clause-puts : goal.returns-in_err-put_posting-cla
 returns-in_err-put_posting-clause-puts g c =
     rw (handed c.from_residual.result c.in_err-put_posting.field-0.0 c.from_residual.ensures.1)
     (first_refused c.args.spot (pointer_at c.args.home.visit.block c.args.home.to.level c.args.home.to.digit)
-    (fields_of c.args.insertion.entry) _ _ (of_overlay g.V.View.seen c.args.overlay.now)
+    c.args.insertion.entry _ _ (of_overlay g.V.View.seen c.args.overlay.now)
     (of_overlay g.V.View.seen c.put_posting.new.overlay) c.in_err-put_posting.field-0.0
-    (subst (λ (n : ℕ). PutsRecord (c.args.spot.block + n) (posting_record (fields_of c.args.insertion.entry))
+    (subst (λ (n : ℕ). PutsRecord (c.args.spot.block + n) (posting_record c.args.insertion.entry)
     (record { head = c.args.insertion.list.head; base = c.args.spot.block })
     (of_overlay g.V.View.seen c.args.overlay.now) (of_overlay g.V.View.seen c.put_posting.new.overlay)
     (Err c.in_err-put_posting.field-0.0)) c.from.ensures c.in_err-put_posting.ensures))
@@ -59,10 +58,10 @@ pub returns-in_err-put-clause-puts : goal.returns-in_err-put-clause-puts
 returns-in_err-put-clause-puts g c =
     rw (handed c.from_residual-in_err-put.result c.in_err-put.field-0.0 c.from_residual-in_err-put.ensures.1)
     (second_refused c.args.spot (pointer_at c.args.home.visit.block c.args.home.to.level c.args.home.to.digit)
-    (fields_of c.args.insertion.entry) _ _ (of_overlay g.V.View.seen c.args.overlay.now)
+    c.args.insertion.entry _ _ (of_overlay g.V.View.seen c.args.overlay.now)
     (of_overlay g.V.View.seen c.put_posting.new.overlay) (of_overlay g.V.View.seen c.put.new.overlay)
     c.in_err-put.field-0.0
-    (subst (λ (n : ℕ). PutsRecord (c.args.spot.block + n) (posting_record (fields_of c.args.insertion.entry))
+    (subst (λ (n : ℕ). PutsRecord (c.args.spot.block + n) (posting_record c.args.insertion.entry)
     (record { head = c.args.insertion.list.head; base = c.args.spot.block })
     (of_overlay g.V.View.seen c.args.overlay.now) (of_overlay g.V.View.seen c.put_posting.new.overlay) (Ok tt))
     c.from.ensures c.in_ok-put_posting.ensures)
@@ -78,9 +77,9 @@ returns-clause-some g c = refl
 pub returns-clause-puts : goal.returns-clause-puts
 returns-clause-puts g c =
     both_put c.args.spot (pointer_at c.args.home.visit.block c.args.home.to.level c.args.home.to.digit)
-    (fields_of c.args.insertion.entry) _ _ (of_overlay g.V.View.seen c.args.overlay.now)
+    c.args.insertion.entry _ _ (of_overlay g.V.View.seen c.args.overlay.now)
     (of_overlay g.V.View.seen c.put_posting.new.overlay) (of_overlay g.V.View.seen c.put.new.overlay)
-    (subst (λ (n : ℕ). PutsRecord (c.args.spot.block + n) (posting_record (fields_of c.args.insertion.entry))
+    (subst (λ (n : ℕ). PutsRecord (c.args.spot.block + n) (posting_record c.args.insertion.entry)
     (record { head = c.args.insertion.list.head; base = c.args.spot.block })
     (of_overlay g.V.View.seen c.args.overlay.now) (of_overlay g.V.View.seen c.put_posting.new.overlay) (Ok tt))
     c.from.ensures c.in_ok-put_posting.ensures)
