@@ -1,17 +1,19 @@
 //! The blocks of lists, their entries and trails.
 ghost use Rattle.std.specs.Prelude.{◌≡◌, IfNone, IfOk, IfSome, Some};
 ghost use Rattle.list_audit.specs.Blocks.{AreListBlocks};
-ghost use Rattle.log_audit.specs.KeptVolumes.{FindsIn, IsStated, KeepsBelow};
+ghost use Rattle.list_audit.specs.Owed.{IsAllOwed};
+ghost use Rattle.log_audit.specs.KeptVolumes.{FindsIn, IsStated, KeepsBelow, image_in};
 ghost use Rattle.log_audit.specs.Findings.{FindsBroken};
 ghost use Rattle.log_audit.specs.Kept.{image_of_kept};
-ghost use Rattle.tamper_rules.specs.Rules.{Entries, Trails};
+ghost use Rattle.tamper_rules.specs.Rules.{Entries, Postings, Trails};
 ghost use Rattle.volume_meaning.specs.Blocks.{PostingFields, posting_record};
 ghost use Rattle.volume_meaning.specs.Volumes.{Holds};
 
 use cell_types::{Evidence, Geometry, NoMemory};
 use host_ports::Meter;
 use list_audit::{
-    HeldPosting, ListBlock, blocks_of, first_broken_entry, first_broken_trail, posting_at,
+    HeldPosting, ListBlock, OwedPostings, blocks_of, first_broken_entry, first_broken_posting,
+    first_broken_trail, posting_at,
 };
 use log_audit::{KeptCells, KeptVolume};
 use std::alloc::Global;
@@ -48,15 +50,31 @@ pub fn posting_at_again(kept: &KeptCells, at: u32) -> Option<HeldPosting>
     posting_at(kept, at)
 }
 
+/// `first_broken_posting`.
+pub fn broken_posting_again(
+    volume: &KeptVolume,
+    blocks: &[ListBlock],
+    owed: &OwedPostings,
+) -> Option<Evidence>
+    requires stated { IsStated volume.now }
+    requires blocks { AreListBlocks volume.now.geometry (image_in volume.now) blocks.now }
+    requires owed { IsAllOwed volume.now owed.now }
+    ensures { FindsIn volume.now Postings result }
+{
+    first_broken_posting(volume, blocks, owed)
+}
+
 /// `first_broken_trail`.
 pub fn broken_trail_again<M: Meter>(
     alloc: Global,
     volume: &KeptVolume,
+    owed: &OwedPostings,
     meter: &mut M,
 ) -> Result<Option<Evidence>, NoMemory>
     requires stated { IsStated volume.now }
     requires met { KeepsBelow volume.now 13 }
+    requires owed { IsAllOwed volume.now owed.now }
     ensures { IfOk result (λ found. FindsIn volume.now Trails found) }
 {
-    first_broken_trail(alloc, volume, meter)
+    first_broken_trail(alloc, volume, owed, meter)
 }

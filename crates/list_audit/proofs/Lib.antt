@@ -1,3 +1,4 @@
+mod AllLed
 pub mod Closing
 pub mod EachBlock
 pub mod Holding

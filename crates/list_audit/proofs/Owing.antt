@@ -7,7 +7,7 @@ use Rattle.document_store.specs.Standing.{HoldsDocument}
 use Rattle.document_store.proofs.Holding.{held_stands, stands_held}
 use Rattle.volume_meaning.specs.Blocks.{PostingFields, posting_record}
 use Rattle.volume_meaning.specs.Nodes.{IsBlockOf}
-use Rattle.volume_meaning.specs.Postings.{ListedPosting, IsPostingOf}
+use Rattle.volume_meaning.specs.Postings.{ListedPosting, HasPostings, IsPostingOf}
 use Rattle.volume_meaning.specs.Slots.{Stores}
 use Rattle.volume_meaning.specs.Volumes.{Holds, IsVolume}
 use Rattle.tamper_rules.specs.Rules.{IsTruePosting, PostingRule}
@@ -16,11 +16,11 @@ use Rattle.log_audit.specs.declared.log.Log.{Log}
 use Rattle.log_audit.proofs.Logged.{stores_of}
 use Rattle.log_audit.proofs.Storing.{stored_there, stored_is_live}
 use Rattle.list_audit.specs.Bodies.{AreRowsOf, HasNoRows}
-use Rattle.list_audit.specs.Owing.{IsPostingOwed, AreOwed, KeepsPostingRule, BlockOwes}
+use Rattle.list_audit.specs.Owing.{IsPostingOwed, AllExist, AreOwed, KeepsPostingRule, BlockOwes}
 use Rattle.list_audit.specs.Tables.{AddsRows, AreSameRows, FitsRow, HasRow, number_of}
 use Rattle.list_audit.proofs.Trailing.{one_stamp}
 
-earlier_or_last : (k n : ℕ) → k < n + 1 → (k < n) ⊎ (k ≡ n)
+pub earlier_or_last : (k n : ℕ) → k < n + 1 → (k < n) ⊎ (k ≡ n)
 earlier_or_last k n h = grind arith
 
 module _ (g : Layout) (image : Image) where
@@ -48,6 +48,14 @@ module _ (g : Layout) (image : Image) where
         (λ (here : owed.0.slot ≡ n). absurd (none l p owed.0 here))
         (earlier_or_last owed.0.slot n owed.1),
   )
+
+  -- the postings of one document more exist
+  pub one_exists : (n : ℕ) → AllExist g image n → ((id body : List ℕ) → HoldsDocument g image n id body → HasPostings g body)
+      → AllExist g image (n + 1)
+  one_exists n all here m id body less holds = ⊎_elim
+      (λ (earlier : m < n). all m id body earlier holds)
+      (λ (same : m ≡ n). here id body (subst (λ (k : ℕ). HoldsDocument g image k id body) same holds))
+      (earlier_or_last m n less)
 
   -- a slot with its postings
   pub slot_more : (n : ℕ) (added : List ListedPosting) (old new : List (ℕ × List ℕ)) (id body : List ℕ) → HoldsDocument g image n id body

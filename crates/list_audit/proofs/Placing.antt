@@ -69,6 +69,16 @@ module _ {image : Image} {block key low high : ℕ} (b : IsBetween image block k
     upper = λ k q past few other. let r = rises_or_same front other past in omega (arith, r, le);
   }
 
+  -- the key itself stands there
+  pub stands_there : (middle : ℕ) (p : PostingFields) → middle < high → InFront image block middle p → p.key ≡ key
+      → IsPlaceOfKey image block key middle
+  stands_there middle p to front same = record {
+    most = omega (arith, to, b.most);
+    lower = λ k below. let f = front_below front k (omega (arith, below)) in
+        (f.0, f.1, let r = rises front k f.0 f.1 below in omega (arith, r, same));
+    upper = λ k q past few other. let r = rises_or_same front other past in omega (arith, r, same);
+  }
+
   -- the two have come together
   pub comes_together : high ≤ low → IsPlaceOfKey image block key low
   comes_together past = record {

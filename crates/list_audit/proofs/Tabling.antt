@@ -1,7 +1,7 @@
 -- Postings that are looked up by all that they say.
 use Rattle.std.proofs.Common.{◌≡◌, ◌<◌, ◌≤◌, ◌+◌, ◌⊎◌, ◌++◌, ⊎_elim, inl, inr, ℕ, List, [], ◌∷◌, length, take, get_or, Some, Err, Ordering, Less, Equal, Greater, refl, sym, ◌∙◌, subst, ap, arith}
 use Rattle.std.specs.Prelude.{Contains, slice_get}
-use Rattle.std.proofs.lemmas.Option.{slice_get_within}
+use Rattle.std.proofs.lemmas.Option.{slice_get_within, get_or_from_slice_get}
 use Rattle.std.proofs.lemmas.List.{take_more}
 use Rattle.std.specs.Ordering.{nat_cmp}
 use Rattle.std.specs.Cmp.Lexicographic.{slice_cmp}
@@ -17,7 +17,7 @@ use Rattle.volume_meaning.specs.Postings.{ListedPosting}
 use Rattle.log_audit.proofs.OneMore.{get_before, get_last, get_pushed}
 use Rattle.list_audit.specs.Tables.{AddsRow, AddsRows, AreOrderedRows, AreSameRows, FitsRow, HasRow, number_of, row_cmp}
 
-same_posting : (a b : PostingFields) → a.key ≡ b.key → a.last ≡ b.last → a.tag ≡ b.tag → a ≡ b
+pub same_posting : (a b : PostingFields) → a.key ≡ b.key → a.last ≡ b.last → a.tag ≡ b.tag → a ≡ b
 same_posting a b k l t =
     ap (λ (x : ℕ). record { key = x; last = a.last; tag = a.tag }) k
     ∙ ap (λ (x : ℕ). record { key = b.key; last = x; tag = a.tag }) l
@@ -99,6 +99,10 @@ same_rows old new moved row =
 -- numbers and tags are in an order in which no two are equal
 total : IsTotalOrder row_cmp
 total = then_total (on_total (λ (x : ℕ × List ℕ). x.0) nat_cmp_total) (on_total (λ (x : ℕ × List ℕ). x.1) nat_list_cmp_total)
+
+-- what stands at a place is there
+pub at_place : (rows : List (ℕ × List ℕ)) (place : ℕ) (sought : ℕ × List ℕ) → slice_get rows place ≡ Some sought → Contains rows sought
+at_place rows place sought is = (place, slice_get_within rows place sought is, get_or_from_slice_get rows place sought sought is)
 
 -- what bisection found is there
 pub found_row : (rows : List (ℕ × List ℕ)) (sought : ℕ × List ℕ) (place : ℕ) → place < length rows

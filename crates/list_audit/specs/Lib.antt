@@ -3,6 +3,7 @@ pub mod Bodies
 pub mod Entries
 pub mod Keeping
 pub mod Numbers
+pub mod Owed
 pub mod Owing
 pub mod Tables
 pub mod Trails

@@ -26,6 +26,10 @@ abbrev pub AreOwed : Layout → Image → ℕ → List (ℕ × List ℕ) → Typ
 AreOwed g image n rows =
     (l : ℕ) (p : PostingFields) → FitsRow l p → (HasRow rows l p ↔ ((o : IsPostingOwed g image l p) × (o.slot < n)))
 
+-- the postings of each document of the slots below n exist
+abbrev pub AllExist : Layout → Image → ℕ → Type 0
+AllExist g image n = (m : ℕ) (id body : List ℕ) → m < n → HoldsDocument g image m id body → HasPostings g body
+
 -- a posting at this place of a block of list l is one of a document's
 abbrev pub KeepsPostingRule : Layout → Image → ℕ → ℕ → ℕ → Type 0
 KeepsPostingRule g image l block place = (p : PostingFields) → Holds image (block + place) (posting_record p)

@@ -41,7 +41,7 @@ pub fn blocks_of(
 }
 
 /// How many lists there are with the time list.
-fn list_count(geometry: &Geometry) -> u16
+pub(crate) fn list_count(geometry: &Geometry) -> u16
     ensures { result ≡ all_lists geometry.now }
 {
     if geometry.version() == STAMPED_VERSION {
@@ -74,7 +74,8 @@ fn add_targets(
     requires numbered { AreNumbered found.old.blocks.items found.old.numbers }
     requires closed { AreClosedBelow geometry.now (image_of_kept kept.now) turn found.old.blocks.items }
     requires here { slice_get found.old.blocks.items turn ≡ Some from }
-    ensures closed { OnOk result (AreClosedBelow geometry.now (image_of_kept kept.now) (turn + 1) found.new.blocks.items) }
+    ensures closed { OnOk result
+        (AreClosedBelow geometry.now (image_of_kept kept.now) (turn + 1) found.new.blocks.items) }
     ensures numbered { OnOk result (AreNumbered found.new.blocks.items found.new.numbers) }
 {
     let _cells = geometry.cells();

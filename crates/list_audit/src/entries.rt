@@ -35,8 +35,8 @@ pub fn first_broken_entry(
 /// The first cell of a block at which it breaks rule 8.
 fn first_in_block(kept: &KeptCells, geometry: &Geometry, listed: &ListBlock) -> Option<Evidence>
     requires { IsBlockOf geometry.now (image_of_kept kept.now) listed.now.list listed.now.block }
-    ensures { FindsPart geometry.now (image_of_kept kept.now) Entries (BlockAsks (image_of_kept kept.now) listed.now.block)
-        result }
+    ensures { FindsPart geometry.now (image_of_kept kept.now) Entries
+        (BlockAsks (image_of_kept kept.now) listed.now.block) result }
 {
     let _cells = geometry.cells();
     let block = listed.block;

@@ -50,5 +50,6 @@ pub use held_posting::{HeldPosting, posting_at};
 pub use listed::ListBlock;
 pub use postings::first_broken_posting;
 pub use rules::first_broken_trail;
+pub use table::{OwedPostings, owed_postings};
 pub use targets::pointer_target;
 pub use trails::has_trail;

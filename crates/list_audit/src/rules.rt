@@ -32,15 +32,18 @@ ghost use Rattle.std.specs.Prelude.{◌≡◌, ◌<◌, ◌↔◌, ℕ, IfOk, Is
 ghost use Rattle.cell_types.specs.Layout.{all_lists};
 ghost use Rattle.volume_meaning.specs.Postings as paths;
 ghost use Rattle.tamper_rules.specs.Rules.{Documents, Entries, Pointers, Trails};
-ghost use Rattle.log_audit.specs.KeptVolumes.{FindsIn, IsStated, KeepsBelow};
+ghost use Rattle.log_audit.specs.KeptVolumes.{FindsIn, IsStated, KeepsBelow, KeepsRule, image_in};
 ghost use Rattle.log_audit.specs.Kept.{image_of_kept};
 ghost use Rattle.log_audit.specs.Findings.{IsMetAll};
 ghost use Rattle.log_audit.specs.Stored.{IsStored};
-ghost use Rattle.list_audit.specs.Keeping.{HaveTrails, KeepsTrailRule};
+ghost use Rattle.list_audit.specs.Keeping.{AreLedTo, HaveTrails, KeepsTrailRule};
+ghost use Rattle.list_audit.specs.Owed.{IsAllOwed};
 
+use crate::blocks::list_count;
 use crate::held_posting::HeldPosting;
 use crate::listing::postings_of;
-use crate::trails::has_trail;
+use crate::table::{OwedPostings, PostingTable, listed_in};
+use crate::trails::{TrailEnd, end_of_trail, has_trail};
 use cell_types::{Evidence, Geometry, NoMemory};
 use host_ports::{Meter, Work};
 use log_audit::{KeptCells, KeptVolume, StoredSlot};
@@ -48,8 +51,8 @@ use std::alloc::Global;
 use tamper_rules::MISSING_TRAIL;
 use term_tags::ListedPosting;
 
-/// The first done cell at which rule 13 is broken, where the rules of lower numbers are kept. The meter is shown how many
-/// of the slots' checks are made, of which this is the second one of each.
+/// The first done cell at which rule 13 is broken, by what documents are owed, where the rules of lower numbers are
+/// kept. The meter is shown how many of the slots' checks are made, of which this is the second one of each.
 ///
 /// # Errors
 ///
@@ -57,12 +60,16 @@ use term_tags::ListedPosting;
 pub fn first_broken_trail<M: Meter>(
     alloc: Global,
     volume: &KeptVolume,
+    owed: &OwedPostings,
     meter: &mut M,
 ) -> Result<Option<Evidence>, NoMemory>
     requires stated { IsStated volume.now }
     requires met { KeepsBelow volume.now 13 }
+    requires owed { IsAllOwed volume.now owed.now }
     ensures { IfOk result (λ found. FindsIn volume.now Trails found) }
 {
+    // All trails are followed list by list, where neighbours are near. Which slot misses one is asked only if one does.
+    let is_kept = is_kept_by_all(volume, owed);
     let slots = volume.log.slots.len() as u64;
     let checks = slots.saturating_mul(2);
     for slot in 0..volume.geometry.slots() {
@@ -71,6 +78,9 @@ pub fn first_broken_trail<M: Meter>(
         };
         let made = slots.saturating_add(u64::from(slot));
         meter.show(Work::Checking, made, checks);
+        if is_kept {
+            continue;
+        }
         if keeps_trail_rule(alloc, &volume.kept, &volume.geometry, &stored)? {
             continue;
         }
@@ -86,6 +96,41 @@ pub fn first_broken_trail<M: Meter>(
     }
     meter.show(Work::Checking, checks, checks);
     Ok(None)
+}
+
+/// Whether rule 13 is kept at each slot: the postings of each document exist, and each of them has a trail.
+fn is_kept_by_all(volume: &KeptVolume, owed: &OwedPostings) -> bool
+    requires entries { KeepsRule volume.now Entries }
+    requires pointers { KeepsRule volume.now Pointers }
+    requires owed { IsAllOwed volume.now owed.now }
+    ensures { IsTrue result → (n : ℕ) → KeepsTrailRule volume.now.geometry (image_in volume.now) n }
+{
+    let _cells = volume.geometry.cells();
+    if !owed.all_exist {
+        return false;
+    }
+    are_led_to(volume, &owed.table)
+}
+
+/// Whether each posting of a table has a trail.
+fn are_led_to(volume: &KeptVolume, table: &PostingTable) -> bool
+    requires entries { KeepsRule volume.now Entries }
+    requires pointers { KeepsRule volume.now Pointers }
+    ensures { IsTrue result → AreLedTo volume.now.geometry (image_in volume.now) table.now.rows.items }
+{
+    let lists = list_count(&volume.geometry);
+    let mut last = TrailEnd::none();
+    for row in &table.rows {
+        let (list, posting) = listed_in(row);
+        if list >= lists {
+            return false;
+        }
+        let Some(end) = end_of_trail(&volume.kept, &volume.geometry, list, &posting, last) else {
+            return false;
+        };
+        last = end;
+    }
+    true
 }
 
 /// Whether the postings of a stored slot's document exist, and each has a trail.

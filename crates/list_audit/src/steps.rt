@@ -26,12 +26,13 @@ pub(crate) enum Step {
     On(u32),
 }
 
-/// Where the trail of a posting leads from a block of a list.
+/// Where the trail of a posting leads from a block of a list. Its key is looked for where the guess says first.
 pub(crate) fn step_from(
     kept: &KeptCells,
     geometry: &Geometry,
     listed: &ListBlock,
     posting: &HeldPosting,
+    guess: u32,
 ) -> Step
     requires block { IsBlockOf geometry.now (image_of_kept kept.now) listed.now.list listed.now.block }
     requires entries { IsMetAll geometry.now (image_of_kept kept.now) Entries }
@@ -40,7 +41,7 @@ pub(crate) fn step_from(
 {
     let _cells = geometry.cells();
     let block = listed.block;
-    let place = place_of(kept, block, posting.key());
+    let place = place_of(kept, block, posting.key(), guess);
     if place < u32::from(ENTRY_PLACES) {
         return step_at(kept, block, place, posting);
     }

@@ -1,10 +1,11 @@
 //! The postings that documents are to have.
-ghost use Rattle.std.specs.Prelude.{◌≡◌, ◌↔◌, [], IfOk, IsTrue, OnOk};
+ghost use Rattle.std.specs.Prelude.{◌≡◌, ℕ, [], IfNone, IfOk, IfSome, IsTrue, OnOk, Some, slice_get};
 ghost use Rattle.tamper_rules.specs.Rules.{Documents};
-ghost use Rattle.log_audit.specs.KeptVolumes.{KeepsRule, image_in};
+ghost use Rattle.log_audit.specs.KeptVolumes.{KeepsRule};
 ghost use Rattle.log_audit.specs.Stored.{FitsInSlot};
-ghost use Rattle.list_audit.specs.Owing.{AreOwed};
-ghost use Rattle.list_audit.specs.Tables.{AddsRow, AddsRows, AreOrderedRows, AreSameRows, HasRow, number_of};
+ghost use Rattle.volume_meaning.specs.Blocks.{PostingFields};
+ghost use Rattle.list_audit.specs.Owed.{IsAllOwed};
+ghost use Rattle.list_audit.specs.Tables.{AddsRow, AddsRows, AreOrderedRows, AreSameRows, FitsRow, HasRow, number_of};
 
 use crate::held_posting::HeldPosting;
 use crate::listing::postings_of;
@@ -20,10 +21,23 @@ pub(crate) const LIST_STEP: u64 = 1_099_511_627_776;
 /// How far those of a key lie from those of the next.
 pub(crate) const KEY_STEP: u64 = 256;
 
+/// How many lists two bytes name.
+const LISTS: u64 = 65_536;
+
+/// How many keys four bytes name.
+const KEYS: u64 = 4_294_967_296;
+
 /// Postings with their lists, 16 bytes each: the list, the key and the greatest ordinal as one number, and the tag.
 #[derive(Drop)]
 pub(crate) struct PostingTable {
     pub(crate) rows: Vec<(u64, [u8; 6])>,
+}
+
+/// The postings that the documents of a volume are owed, and whether those of each document exist.
+#[derive(Drop)]
+pub struct OwedPostings {
+    pub(crate) table: PostingTable,
+    pub(crate) all_exist: bool,
 }
 
 impl PostingTable {
@@ -64,31 +78,70 @@ impl PostingTable {
         self.rows.sort_unstable();
     }
 
-    /// Whether a posting of a list is there: found by bisection.
-    pub(crate) fn has(&self, list: u16, posting: &HeldPosting) -> bool
+    /// The place of a posting of a list, if it is there: the guess, or found by bisection.
+    pub(crate) fn place_of(&self, list: u16, posting: &HeldPosting, guess: usize) -> Option<usize>
         requires { AreOrderedRows self.now.rows.items }
-        ensures { IsTrue result ↔ HasRow self.now.rows.items list posting.now }
+        ensures some { IfSome result (λ place. HasRow self.now.rows.items list posting.now) }
+        ensures none { IfNone result (HasRow self.now.rows.items list posting.now → ⊥) }
     {
-        let number = number_of(list, posting.key(), posting.last());
-        let Ok(_place) = self.rows.binary_search(&(number, posting.tag())) else {
-            return false;
+        let sought = (
+            number_of(list, posting.key(), posting.last()),
+            posting.tag(),
+        );
+        if is_row_at(&self.rows, guess, &sought) {
+            return Some(guess);
+        }
+        let Ok(place) = self.rows.binary_search(&sought) else {
+            return None;
         };
-        true
+        Some(place)
     }
 }
 
-/// The postings that the documents of a volume are to have, where rule 4 is kept. That is the first check of each slot.
-pub(crate) fn table_of<M: Meter>(
+/// Whether this one stands at a place.
+fn is_row_at(rows: &[(u64, [u8; 6])], place: usize, sought: &(u64, [u8; 6])) -> bool
+    ensures { IsTrue result → slice_get rows.now place ≡ Some sought.now }
+{
+    let Some(row) = row_at(rows, place) else {
+        return false;
+    };
+    is_same_row(&row, sought)
+}
+
+/// What stands at a place.
+fn row_at(rows: &[(u64, [u8; 6])], place: usize) -> Option<(u64, [u8; 6])>
+    ensures { result ≡ slice_get rows.now place }
+{
+    match rows.get(place) {
+        Some(row) => Some(*row),
+        None => None,
+    }
+}
+
+/// Whether both are the same.
+fn is_same_row(row: &(u64, [u8; 6]), other: &(u64, [u8; 6])) -> bool
+    ensures { IsTrue result → row.now ≡ other.now }
+{
+    *row == *other
+}
+
+/// What the documents of a volume are owed, where rule 4 is kept. It takes 16 bytes a posting, and what one document's
+/// words and postings take while they are made. The meter is shown how many of the slots' checks are made, of which this
+/// is the first one of each.
+///
+/// # Errors
+///
+/// `NoMemory`.
+pub fn owed_postings<M: Meter>(
     alloc: Global,
     volume: &KeptVolume,
     meter: &mut M,
-) -> Result<PostingTable, NoMemory>
+) -> Result<OwedPostings, NoMemory>
     requires documents { KeepsRule volume.now Documents }
-    ensures owed { IfOk result (λ table.
-        AreOwed volume.now.geometry (image_in volume.now) volume.now.geometry.slots table.rows.items) }
-    ensures order { IfOk result (λ table. AreOrderedRows table.rows.items) }
+    ensures { IfOk result (λ owed. IsAllOwed volume.now owed) }
 {
     let mut table = PostingTable::with_room(alloc, volume)?;
+    let mut all_exist = true;
     let checks = (volume.log.slots.len() as u64).saturating_mul(2);
     for slot in 0..volume.geometry.slots() {
         let Some(stored) = volume.stored_slot(slot) else {
@@ -97,12 +150,13 @@ pub(crate) fn table_of<M: Meter>(
         meter.show(Work::Checking, u64::from(slot), checks);
         let found = postings_of(alloc, &volume.kept, &volume.geometry, &stored)?;
         let Some(rows) = found else {
+            all_exist = false;
             continue;
         };
         table.add_all(&rows)?;
     }
     table.sort();
-    Ok(table)
+    Ok(OwedPostings { table, all_exist })
 }
 
 /// How many postings the journals of stored slots hold.
@@ -132,6 +186,17 @@ fn postings_journaled_by(kept: &KeptCells, stored: &StoredSlot) -> usize
         }
     }
     count
+}
+
+/// The list of such a number, and the posting that it and a tag make.
+pub(crate) fn listed_in(row: &(u64, [u8; 6])) -> (u16, HeldPosting)
+    ensures { (l : ℕ) (p : PostingFields) → FitsRow l p → row.now ≡ (number_of l p.key p.last, p.tag)
+        → (result.0 ≡ l) × (result.1 ≡ p) }
+{
+    let list = (row.0 / LIST_STEP % LISTS) as u16;
+    let key = (row.0 / KEY_STEP % KEYS) as u32;
+    let last = (row.0 % KEY_STEP) as u8;
+    (list, HeldPosting::new(key, last, row.1))
 }
 
 /// A list, a key and a greatest ordinal as one number.

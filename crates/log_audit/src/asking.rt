@@ -53,7 +53,12 @@ impl KeptCells {
     }
 }
 
-/// What the written cell of a number holds, where it can stand at these places alone: found by bisection.
+/// How often a place is guessed before it is found by bisection.
+const GUESSES: u32 = 2;
+
+/// What the written cell of a number holds, where it can stand at these places alone. Where cells are written without a
+/// gap, it stands as far from any of them as its number lies from that one's: so that is looked at first. Bisection
+/// ends what gaps leave open, in 8 looks more at most.
 fn held_between(rows: &ChunkedRows, from: usize, to: usize, number: u32) -> Option<Cell>
     requires rising { AreRising (all_rows rows.now) }
     requires places { AreOnlyBetween (all_rows rows.now) from to number }
@@ -62,21 +67,38 @@ fn held_between(rows: &ChunkedRows, from: usize, to: usize, number: u32) -> Opti
 {
     let mut low = from;
     let mut high = to;
+    let mut guess = from.saturating_add((number % PAGE_CELLS) as usize);
+    let mut looks: u32 = 0;
     while low < high {
-        let middle = low + (high - low) / 2;
+        let middle = place_to_ask(low, high, guess, looks < GUESSES);
         let Some(row) = rows.row_at(middle) else {
             unreachable!();
         };
         if row.number == number {
             return Some(cell_of(&row));
         }
+        looks = looks.saturating_add(1);
         if row.number < number {
             low = middle + 1;
+            guess = middle.saturating_add((number - row.number) as usize);
         } else {
             high = middle;
+            guess = middle.saturating_sub((row.number - number) as usize);
         }
     }
     None
+}
+
+/// The guess, where it is one and lies between the two, or else the place in the middle.
+fn place_to_ask(low: usize, high: usize, guess: usize, is_guessed: bool) -> usize
+    requires { low < high }
+    ensures from { low ≤ result }
+    ensures below { result < high }
+{
+    if is_guessed && low <= guess && guess < high {
+        return guess;
+    }
+    low + (high - low) / 2
 }
 
 /// What it holds.

@@ -28,7 +28,8 @@ pub fn reservation(kept: &KeptCells, geometry: &Geometry, slot: u32) -> Option<R
     requires { slot < geometry.now.slots }
     ensures some { IfSome result (λ r. Reserves geometry.now (image_of_kept kept.now) slot r.start r.length) }
     ensures most { IfSome result (λ r. r.start + r.length ≤ MAX_CELLS) }
-    ensures none { IfNone result ((start length : ℕ) → Reserves geometry.now (image_of_kept kept.now) slot start length → ⊥) }
+    ensures none { IfNone result ((start length : ℕ)
+        → Reserves geometry.now (image_of_kept kept.now) slot start length → ⊥) }
 {
     let Some(held) = record_at(kept, geometry.reserve_at(slot)) else {
         return None;

@@ -32,7 +32,8 @@ pub fn first_broken_target(volume: &KeptVolume) -> Option<Evidence>
 /// The first cell of a slot's journal whose target does not hold the same.
 fn first_undone_of(kept: &KeptCells, stored: &StoredSlot) -> Option<Evidence>
     requires { FitsInSlot stored.now }
-    ensures { PlacesFind (IsRedone (image_of_kept kept.now) stored.now) (image_of_kept kept.now) Targets stored.now result }
+    ensures { PlacesFind (IsRedone (image_of_kept kept.now) stored.now)
+        (image_of_kept kept.now) Targets stored.now result }
 {
     let from = stored.journal_at();
     for place in 0..stored.journal {

@@ -98,7 +98,8 @@ fn push_leads(
     leads: &mut Vec<u64>,
 ) -> Result<(), NoMemory>
     requires { node + 32 < 2 ^ 32 }
-    ensures { OnOk result (AddsNumbers (IsLeadOf geometry.now (image_of_kept kept.now) node 32) leads.old.items leads.new.items) }
+    ensures { OnOk result (AddsNumbers (IsLeadOf geometry.now (image_of_kept kept.now) node 32)
+        leads.old.items leads.new.items) }
 {
     for place in NODE_BUCKETS..NODE_CELLS {
         let cell = node + place;

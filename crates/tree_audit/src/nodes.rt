@@ -87,7 +87,8 @@ fn push_targets(
     targets: &mut Vec<u32>,
 ) -> Result<(), NoMemory>
     requires { node + 32 < 2 ^ 32 }
-    ensures { OnOk result (AddsChildTargets geometry.now (image_of_kept kept.now) node 32 targets.old.items targets.new.items) }
+    ensures { OnOk result (AddsChildTargets geometry.now (image_of_kept kept.now) node 32
+        targets.old.items targets.new.items) }
 {
     for place in NODE_BUCKETS..NODE_CELLS {
         let Some(target) = child_at(kept, geometry, node + place) else {

@@ -4,6 +4,7 @@ ghost use Rattle.volume_meaning.specs.Volumes.{IsVolume};
 ghost use Rattle.log_audit.specs.Kept.{image_of_kept, count_of};
 ghost use Rattle.log_audit.specs.KeptVolumes.{HasAllCells, IsStated, KeepsBelow, image_in};
 ghost use Rattle.list_audit.specs.Blocks.{AreListBlocks};
+ghost use Rattle.list_audit.specs.Owed.{IsAllOwed};
 ghost use Rattle.tree_audit.specs.Nodes.{AreNodes};
 ghost use Rattle.volume_audit.specs.Judging.{Judges, Passes, RefusesFound};
 
@@ -11,7 +12,8 @@ use crate::report::{AuditReport, report_of};
 use cell_types::{Evidence, Geometry, Refusal};
 use host_ports::Meter;
 use list_audit::{
-    ListBlock, blocks_of, first_broken_entry, first_broken_posting, first_broken_trail,
+    ListBlock, OwedPostings, blocks_of, first_broken_entry, first_broken_posting,
+    first_broken_trail, owed_postings,
 };
 use log_audit::{KeptCells, KeptVolume, check_log};
 use slot_audit::{
@@ -44,8 +46,10 @@ pub(crate) fn judge<M: Meter>(
     check_slots(alloc, &volume)?;
     let blocks = blocks_of(alloc, &volume.kept, &volume.geometry)?;
     let nodes = nodes_of(alloc, &volume.kept, &volume.geometry)?;
-    check_index(alloc, &volume, &blocks, &nodes, meter)?;
-    check_reach(alloc, &volume, meter)?;
+    check_entries(&volume, &blocks)?;
+    let owed = owed_postings(alloc, &volume, meter)?;
+    check_index(alloc, &volume, &blocks, &nodes, &owed)?;
+    check_reach(alloc, &volume, &owed, meter)?;
     Ok(report_of(&volume))
 }
 
@@ -61,36 +65,42 @@ fn check_slots(alloc: Global, volume: &KeptVolume) -> Result<(), Refusal>
     check_strays(alloc, volume)
 }
 
-/// Rules 8 to 12: what stands in the lists and in the tree.
-fn check_index<M: Meter>(
+/// Rules 9 to 12: what stands in the lists and in the tree.
+fn check_index(
     alloc: Global,
     volume: &KeptVolume,
     blocks: &[ListBlock],
     nodes: &[LevelNode],
-    meter: &mut M,
+    owed: &OwedPostings,
 ) -> Result<(), Refusal>
     requires stated { IsStated volume.now }
     requires count { HasAllCells volume.now }
     requires blocks { AreListBlocks volume.now.geometry (image_in volume.now) blocks.now }
     requires nodes { AreNodes volume.now.geometry (image_in volume.now) nodes.now }
-    requires met { KeepsBelow volume.now 8 }
+    requires owed { IsAllOwed volume.now owed.now }
+    requires met { KeepsBelow volume.now 9 }
     ensures { Passes volume.now.geometry (image_in volume.now) 13 result }
 {
-    check_entries(volume, blocks)?;
-    check_postings(alloc, volume, blocks, meter)?;
+    check_postings(volume, blocks, owed)?;
     check_pointers(alloc, volume, blocks, nodes)?;
     check_buckets(volume, nodes)?;
     check_children(alloc, volume, blocks, nodes)
 }
 
 /// Rules 13 to 15: that the index leads to each document, and takes no cells besides.
-fn check_reach<M: Meter>(alloc: Global, volume: &KeptVolume, meter: &mut M) -> Result<(), Refusal>
+fn check_reach<M: Meter>(
+    alloc: Global,
+    volume: &KeptVolume,
+    owed: &OwedPostings,
+    meter: &mut M,
+) -> Result<(), Refusal>
     requires stated { IsStated volume.now }
     requires count { HasAllCells volume.now }
+    requires owed { IsAllOwed volume.now owed.now }
     requires met { KeepsBelow volume.now 13 }
     ensures { Passes volume.now.geometry (image_in volume.now) 16 result }
 {
-    check_trails(alloc, volume, meter)?;
+    check_trails(alloc, volume, owed, meter)?;
     check_paths(volume)?;
     check_tilings(alloc, volume)
 }
@@ -139,18 +149,18 @@ fn check_entries(volume: &KeptVolume, blocks: &[ListBlock]) -> Result<(), Refusa
 }
 
 /// Rule 9: the postings in blocks are those of documents.
-fn check_postings<M: Meter>(
-    alloc: Global,
+fn check_postings(
     volume: &KeptVolume,
     blocks: &[ListBlock],
-    meter: &mut M,
+    owed: &OwedPostings,
 ) -> Result<(), Refusal>
     requires stated { IsStated volume.now }
     requires blocks { AreListBlocks volume.now.geometry (image_in volume.now) blocks.now }
+    requires owed { IsAllOwed volume.now owed.now }
     requires met { KeepsBelow volume.now 9 }
     ensures { Passes volume.now.geometry (image_in volume.now) 10 result }
 {
-    refuse(first_broken_posting(alloc, volume, blocks, meter)?)
+    refuse(first_broken_posting(volume, blocks, owed))
 }
 
 /// Rule 10: pointers lead where they should.
@@ -195,12 +205,18 @@ fn check_children(
 }
 
 /// Rule 13: each posting of a document has a trail.
-fn check_trails<M: Meter>(alloc: Global, volume: &KeptVolume, meter: &mut M) -> Result<(), Refusal>
+fn check_trails<M: Meter>(
+    alloc: Global,
+    volume: &KeptVolume,
+    owed: &OwedPostings,
+    meter: &mut M,
+) -> Result<(), Refusal>
     requires stated { IsStated volume.now }
+    requires owed { IsAllOwed volume.now owed.now }
     requires met { KeepsBelow volume.now 13 }
     ensures { Passes volume.now.geometry (image_in volume.now) 14 result }
 {
-    refuse(first_broken_trail(alloc, volume, meter)?)
+    refuse(first_broken_trail(alloc, volume, owed, meter)?)
 }
 
 /// Rule 14: each document has its path, and no two have one identifier.

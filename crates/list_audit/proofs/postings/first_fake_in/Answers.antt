@@ -26,7 +26,7 @@ loop-place-preserved c =
     let g = c.args.geometry.now in let image = image_of_kept c.args.kept.now in let l = c.args.listed.now.list in
     let fits : FitsRow l c.in-Some.posting = record { list = omega arith; key = omega arith; last = omega arith } in
     fine_more c.loop-place.invariant (λ _. found_owed g image l c.args.listed.now.block c.loop-place.place c.posting_at.ensures.one c.in-Some.is
-    ((of_table g image c.args.table.now.rows.items l c.in-Some.posting c.requires.owed fits).0 (decided_yes _ c.has.ensures c.if-has.true)))
+    ((of_table g image c.args.table.now.rows.items l c.in-Some.posting c.requires.owed fits).0 c.in-Some-place_of.ensures.some))
 
 pub unreachable-requires : goal.unreachable-requires
 unreachable-requires c = none-some _ (sym c.in_default-at.is ∙ c.at.ensures ∙ c.in-Some.ensures.some.stands)
@@ -40,7 +40,7 @@ returns-in-loop-place c =
     first_of_part g image Postings (BlockOwes g image l block) (λ (place : ℕ). block + place) (KeepsPostingRule g image l block)
     c.loop-place.place 128 _ (λ cell asked. asked) (λ asked. asked c.loop-place.place few refl) (λ a b less. omega (arith, less))
     c.loop-place.invariant
-    (λ keeps. decided_no _ c.has.ensures c.if-has.false ((of_table g image c.args.table.now.rows.items l c.in-Some.posting c.requires.owed fits).1 (keeps c.in-Some.posting c.in-Some.ensures.some)))
+    (λ keeps. c.in_default-place_of.ensures.none ((of_table g image c.args.table.now.rows.items l c.in-Some.posting c.requires.owed fits).1 (keeps c.in-Some.posting c.in-Some.ensures.some)))
     refl (is_place g image l block c.loop-place.place c.requires.block (omega (arith, few))) (sym c.at.ensures ∙ c.in-Some-at.is) refl
 
 pub returns : goal.returns

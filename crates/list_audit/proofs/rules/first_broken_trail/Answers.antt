@@ -21,6 +21,15 @@ keeps_trail_rule-requires-clause-entries _ c = c.requires.met Entries (omega ari
 pub keeps_trail_rule-requires-clause-pointers : goal.keeps_trail_rule-requires-clause-pointers
 keeps_trail_rule-requires-clause-pointers _ c = c.requires.met Pointers (omega arith)
 
+pub is_kept_by_all-is_kept-requires-clause-entries : goal.is_kept_by_all-is_kept-requires-clause-entries
+is_kept_by_all-is_kept-requires-clause-entries _ c = c.requires.met Entries (omega arith)
+
+pub is_kept_by_all-is_kept-requires-clause-pointers : goal.is_kept_by_all-is_kept-requires-clause-pointers
+is_kept_by_all-is_kept-requires-clause-pointers _ c = c.requires.met Pointers (omega arith)
+
+pub loop-slot-preserved-then-is_kept : goal.loop-slot-preserved-then-is_kept
+loop-slot-preserved-then-is_kept _ c = fine_more c.loop-slot.invariant (λ _. c.is_kept_by_all-is_kept.ensures c.if-is_kept.true c.loop-slot.slot)
+
 pub loop-slot-preserved : goal.loop-slot-preserved
 loop-slot-preserved _ c = fine_more c.loop-slot.invariant
     (λ _. subst (KeepsTrailRule c.args.volume.now.geometry (image_in c.args.volume.now)) c.in-Some.ensures.same

@@ -13,3 +13,6 @@ returns-then-row-number c =
 
 pub returns : goal.returns
 returns c = none_between (all_rows c.args.rows.now) c.loop-low.invariant.0 (omega (arith, c.loop-low-test.false))
+
+pub overflow_add-low : goal.overflow_add-low
+overflow_add-low c = omega (arith, c.place_to_ask-middle.ensures.below, c.loop-low.invariant.2, c.ranges.to.fits)

@@ -1,15 +1,10 @@
 -- What was found.
-use Rattle.std.proofs.Common.{arith}
 use Rattle.log_audit.specs.KeptVolumes.{image_in}
-use Rattle.tamper_rules.specs.Rules.{Documents, Postings}
+use Rattle.tamper_rules.specs.Rules.{Postings}
 use Rattle.volume_audit.proofs.Passing.{passes}
 use Rattle.volume_audit.proofs.judging.check_postings.Goals as goal
 
-pub first_broken_posting-requires-clause-documents : goal.first_broken_posting-requires-clause-documents
-first_broken_posting-requires-clause-documents g c = c.requires.met Documents (omega arith)
-
 pub returns : goal.returns
-returns g c = let volume = c.args.volume.now in
-    passes volume.geometry (image_in volume) Postings c.in_ok-first_broken_posting.field-0 c.refuse.result
-    c.requires.met
-    c.in_ok-first_broken_posting.ensures c.refuse.ensures
+returns c = let volume = c.args.volume.now in
+    passes volume.geometry (image_in volume) Postings c.first_broken_posting.result c.refuse.result c.requires.met
+    c.first_broken_posting.ensures c.refuse.ensures

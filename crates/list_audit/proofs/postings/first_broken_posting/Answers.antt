@@ -6,7 +6,7 @@ use Rattle.tamper_rules.specs.Rules.{Postings}
 use Rattle.list_audit.proofs.EachBlock.{one_block, every_block}
 use Rattle.list_audit.specs.Owing.{BlockOwes}
 use Rattle.list_audit.proofs.Owing.{rule_owes, block_owes}
-use Rattle.list_audit.proofs.postings.first_fake.Goals as goal
+use Rattle.list_audit.proofs.postings.first_broken_posting.Goals as goal
 
 pub first_fake_in-requires-clause-block : goal.first_fake_in-requires-clause-block
 first_fake_in-requires-clause-block c = c.requires.blocks.each c.loop-block.block-index _

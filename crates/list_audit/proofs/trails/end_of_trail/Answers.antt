@@ -2,7 +2,7 @@
 use Rattle.std.proofs.Common.{arith}
 use Rattle.log_audit.specs.Kept.{image_of_kept}
 use Rattle.list_audit.proofs.Walking.{sets_out, goes_on}
-use Rattle.list_audit.proofs.trails.has_trail.Goals as goal
+use Rattle.list_audit.proofs.trails.end_of_trail.Goals as goal
 
 pub loop-turn-init : goal.loop-turn-init
 loop-turn-init c = sets_out c.args.geometry.now (image_of_kept c.args.kept.now) c.args.list c.args.posting.now _ c.requires.list
