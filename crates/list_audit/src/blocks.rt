@@ -37,7 +37,9 @@ pub fn blocks_of(
         };
         add_targets(kept, geometry, turn, from, &mut found)?;
     }
-    Err(memory::lacked_elsewhere())
+    // Each of 2^32 - 1 blocks has had its turn, and no memory holds one more.
+    memory::count_of(&found.blocks)?;
+    Ok(found.blocks)
 }
 
 /// How many lists there are with the time list.
