@@ -1,5 +1,5 @@
 -- A document that is kept and was read, over plain values.
-use Rattle.std.proofs.Common.{◌≡◌, ℕ, List, Some, None, Result, Ok, Err, sym, subst}
+use Rattle.std.proofs.Common.{ℕ, List, Some, None, Ok, Err, sym, subst}
 use Rattle.std.specs.Prelude.{IsTrue}
 use Rattle.volume_meaning.specs.Keeping.{IsKept}
 use Rattle.worm_device.specs.Views.{ViewState, Viewed}

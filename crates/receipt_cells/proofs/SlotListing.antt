@@ -1,5 +1,5 @@
 -- The cells of a slot whose document stands, over plain values.
-use Rattle.std.proofs.Common.{◌≡◌, ◌<◌, ◌≤◌, ◌+◌, ◌-◌, ◌*◌, ◌^◌, ◌⊎◌, ⊎_elim, inl, inr, ℕ, List, Some, None, Result, Ok, Err, ap, sym, subst, arith, ◌∙◌}
+use Rattle.std.proofs.Common.{◌≡◌, ◌<◌, ◌≤◌, ◌+◌, ◌-◌, ◌*◌, ◌^◌, ◌⊎◌, ⊎_elim, inl, inr, ℕ, List, None, Result, Ok, Err, ap, sym, subst, arith, ◌∙◌}
 use Rattle.std.specs.Prelude.{IsTrue, length}
 use Rattle.std.proofs.lemmas.Bool.{cases_lt}
 use Rattle.cell_types.specs.Image.{Image, Extends}
@@ -21,7 +21,7 @@ use Rattle.jump_block.proofs.Counting as counts
 use Rattle.document_store.specs.Looks.{HasPart, IsPartOf, LookFails, PartEnds}
 use Rattle.document_store.specs.Standing.{HoldsDocument}
 use Rattle.document_store.specs.declared.part.Part.{Part}
-use Rattle.document_store.proofs.Holding.{held_in_part, held_is_done, held_on, one_part, part_on, stands_held}
+use Rattle.document_store.proofs.Holding.{held_in_part, held_is_done, one_part, part_on, stands_held}
 use Rattle.kept_documents.specs.declared.fault.AskFault.{AskFault}
 use Rattle.kept_documents.specs.declared.fault.AskFault.TheVariants.{NoMemory, ReadFault}
 use Rattle.kept_documents.proofs.PassedBuckets.{names_none, stands_later, volume_later}

@@ -1,12 +1,10 @@
 -- What listing the cells that a document's being kept rests on does.
-use Rattle.std.specs.Prelude.{◌≡◌, ℕ, List, [], ◌∷◌, length, Option, Some, None, Result, Ok, Err, IsTrue, ⊤}
+use Rattle.std.specs.Prelude.{◌≡◌, ℕ, List, length, Option, Some, None, Result, Ok, Err, IsTrue, ⊤}
 use Rattle.cell_types.specs.Layout.{Layout}
-use Rattle.volume_meaning.specs.Keeping.{IsKept, Kept}
+use Rattle.volume_meaning.specs.Keeping.{IsKept}
 use Rattle.volume_meaning.specs.Volumes.{IsVolume}
 use Rattle.worm_device.specs.Counts.{Rose}
 use Rattle.worm_device.specs.Views.{ViewState, Viewed}
-use Rattle.commit_record.specs.declared.opening.OpenRefusal.{OpenRefusal}
-use Rattle.commit_record.specs.declared.opening.OpenRefusal.TheVariants as opening
 use Rattle.kept_documents.specs.Kept.{KeepsNone, document_of}
 use Rattle.kept_documents.specs.declared.fault.AskFault.{AskFault}
 use Rattle.kept_documents.specs.declared.fault.AskFault.TheVariants.{NoMemory, ReadFault}

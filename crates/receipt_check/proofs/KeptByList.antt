@@ -1,10 +1,9 @@
 -- What was listed of a device, and that it keeps the document by itself, over plain values.
-use Rattle.std.proofs.Common.{◌≡◌, ◌<◌, ◌≤◌, ◌^◌, ⊎_elim, ℕ, List, Option, Some, None, Result, Ok, Err, ap, refl, sym, subst, arith, ◌∙◌}
-use Rattle.std.specs.Prelude.{IsTrue, [], ◌∷◌}
+use Rattle.std.proofs.Common.{◌≡◌, ◌<◌, ◌≤◌, ◌^◌, ⊎_elim, ℕ, List, Option, Some, None, Result, Ok, Err, sym, subst, ◌∙◌}
+use Rattle.std.specs.Prelude.{[], ◌∷◌}
 use Rattle.std.proofs.lemmas.Bool.{cases_lt}
 use Rattle.std.proofs.lemmas.Option.{none-some}
 use Rattle.cell_types.specs.Image.{Extends}
-use Rattle.cell_types.specs.Layout.{Layout}
 use Rattle.volume_meaning.specs.Documents.{Document}
 use Rattle.volume_meaning.specs.Keeping.{IsKept, Kept}
 use Rattle.worm_device.specs.State.{DeviceState}

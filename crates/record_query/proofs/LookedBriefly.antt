@@ -1,5 +1,5 @@
 -- How many reads a look-up on a settled volume makes, where nobody else writes.
-use Rattle.std.proofs.Common.{◌≡◌, ◌≤◌, ◌+◌, ◌∙◌, ℕ, List, Ok, refl, sym, subst, arith}
+use Rattle.std.proofs.Common.{◌≡◌, ◌≤◌, ◌+◌, ◌∙◌, ℕ, List, Ok, refl, subst, arith}
 use Rattle.std.specs.Prelude.{IsTrue, sum_by}
 use Rattle.sha2.specs.Sha256.{sha256}
 use Rattle.cell_types.specs.Image.{Image}
