@@ -19,6 +19,8 @@
 //! **The front** is the longest run of places from 0 on that hold postings with rising keys. Whatever is written into
 //! blank cells, it stays and can only grow at its end. So a front that was verified once is kept (`KnownFront`), and a
 //! later search in it reads some known places at most, and the places behind its end.
+//! A row of 32 cells can be kept, too (`KeptRow`): what was found written in it stands, and of what was blank nothing is
+//! concluded.
 //!
 //! Stands on `worm_device` (views), `volume_meaning` (what a front is) and `tamper_rules` (the rules' numbers).
 //! `jump_index` walks from block to block. Begin with `fronts.rt`; `specs/Fronts.antt` says how a look ends.

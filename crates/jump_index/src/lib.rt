@@ -19,10 +19,11 @@
 //! turn; the first written one ends the search.
 //!
 //! The level of a span falls at every hop, so a walk has at most nine blocks, and a search makes at most 4,096 reads.
-//! A caller that searches again and again keeps fronts (`KeptFronts`), and few blocks are read twice.
+//! A caller that searches again and again keeps what is known (`KeptSearch`), and few cells are read twice: a search looks
+//! first where the pointers of the one before lead to, in a row of 32 cells that is kept.
 //!
 //! Stands on `jump_block` (one block), and on `tamper_rules` for what a broken rule is. Begin with `search.rt`;
-//! `specs/Searches.antt` says what an answer means.
+//! `specs/Searches.antt` says what an answer means, and `specs/Keeping.antt` what is kept.
 #![tactic(auto)]
 
 mod bounds;
