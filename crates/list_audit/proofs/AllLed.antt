@@ -3,7 +3,7 @@ use Rattle.std.proofs.Common.{◌≡◌, ◌<◌, ◌≤◌, ◌+◌, ⊎_elim, 
 use Rattle.std.specs.Prelude.{slice_get}
 use Rattle.std.proofs.lemmas.Option.{slice_get_within, slice_get-get_or}
 use Rattle.cell_types.specs.Image.{Image}
-use Rattle.cell_types.specs.Layout.{Layout, IsLayout, all_lists, list_at}
+use Rattle.cell_types.specs.Layout.{Layout, IsLayout, list_at}
 use Rattle.volume_meaning.specs.Blocks.{PostingFields}
 use Rattle.volume_meaning.specs.Postings.{HasPostings, IsPostingOf, IsWordPosting, time_posting}
 use Rattle.volume_meaning.specs.Slots.{IsStampOf}
@@ -11,7 +11,7 @@ use Rattle.volume_meaning.proofs.Stamps.{some_stamp, stands_given}
 use Rattle.volume_meaning.proofs.Tags.{tags_one}
 use Rattle.list_audit.specs.Keeping.{AreLedTo, KeepsTrailRule}
 use Rattle.list_audit.specs.Owing.{AllExist, AreOwed}
-use Rattle.list_audit.specs.Tables.{FitsRow, HasRow, number_of}
+use Rattle.list_audit.specs.Tables.{FitsRow, number_of}
 use Rattle.list_audit.specs.Trails.{HasTrail}
 use Rattle.list_audit.proofs.Owing.{earlier_or_last}
 

@@ -19,9 +19,10 @@
 //! bytes for the two. Room for as many postings as journals hold is taken at once.
 //!
 //! **Rule 13** is asked at each done cell, once the rules of lower numbers are kept. That makes a step of a trail short:
-//! the entries of a block stand without a gap and by rising keys, so that the place of a key is found by bisection, in 8
-//! looks; and each pointer that is written leads well. Spans grow narrower from block to block, by a factor of 16 at
-//! least, so that a trail has 9 blocks at most.
+//! the entries of a block stand without a gap and by rising keys, so that the place of a key is found in 10 looks, and
+//! mostly in one; and each pointer that is written leads well. Spans grow narrower from block to block, by a factor of
+//! 16 at least, so that a trail has 9 blocks at most. The postings of rule 9 are taken, list by list and by rising keys.
+//! Only where one of them has no trail, or a document has none, is it asked slot by slot which is the first.
 //!
 //! What is asked of a caller is that cell 0 states the volume, and that lower rules are kept: the calls that check them
 //! say so.

@@ -11,11 +11,11 @@
 //!     number    0  4  5  6  36  37  560 580  581  582  583
 //!     starts    page 0: 0    page 1: 6    page 2: 6    page 3: 11
 //!
-//! `at(560)` is of page 2, so it stands at one of the places 6 to 10, and bisection finds it at 6; `at(300)` is of page
+//! `at(560)` is of page 2, so it stands at one of the places 6 to 10, and it is found at 6; `at(300)` is of page
 //! 1, of which nothing was written. That costs 20 bytes a written cell and 4 bytes a page, and no bytes more for a blank
 //! cell: 1,000,000 cells of which 650,000 are written take 13 MB, and 2^31 blank ones 32 MB. The written cells stand in
 //! chunks of 4,096, and a full chunk is never copied: so this is what is held at any moment, but for the rest of the
-//! last chunk. A question takes 8 halvings at most.
+//! last chunk. A question takes 10 looks at most, the first two at the places that numbers without a gap would have.
 //!
 //! What is kept lies between what stood when the reading began and what stands at its end, and is both where nobody else
 //! wrote.

@@ -22,7 +22,7 @@
 //! abandoned and 11 written. If somebody then writes an abandon cell into cell 9, it names rule 2 there.
 //!
 //! It takes 20 bytes of memory for each written cell, 20 for each slot, and 4 for each page of 256 cells.
-//! While it checks rule 9 it takes 16 more for each posting, and room for the words of one document. A
+//! From rule 9 to rule 13 it takes 16 more for each posting, and room for the words of one document. A
 //! posting has two written cells, itself and its copy in a journal: with many postings that makes 28 bytes
 //! for each written cell. A slot that was given up has two as well: with many of them it makes 30. Room is
 //! taken at once if its size is known.

@@ -3,7 +3,6 @@ use Rattle.std.proofs.Common.{◌≤◌, ◌<◌, ◌+◌, ℕ, refl, sym, ◌�
 use Rattle.std.proofs.lemmas.Option.{none-some}
 use Rattle.log_audit.specs.Kept.{image_of_kept}
 use Rattle.tamper_rules.specs.Rules.{Postings}
-use Rattle.log_audit.proofs.Deciding.{decided_no, decided_yes}
 use Rattle.log_audit.proofs.Families.{fine_more}
 use Rattle.log_audit.proofs.Parts.{first_of_part, part_met}
 use Rattle.list_audit.proofs.Closing.{block_inside}

@@ -1,5 +1,5 @@
 -- A number of three parts is taken apart.
-use Rattle.std.proofs.Common.{◌≡◌, ℕ, List, ap, sym, ◌∙◌, arith}
+use Rattle.std.proofs.Common.{◌≡◌, ℕ, List, ap, ◌∙◌, arith}
 use Rattle.list_audit.specs.Tables.{number_of}
 use Rattle.list_audit.proofs.Tabling.{same_posting}
 use Rattle.list_audit.proofs.table.listed_in.Goals as goal

@@ -1,5 +1,4 @@
 -- The postings of the slots below this turn's were added, and whether those of each document exist is known.
-use Rattle.std.proofs.Common.{ℕ}
 use Rattle.std.specs.Prelude.{IsTrue}
 use Rattle.log_audit.specs.KeptVolumes.{image_in}
 use Rattle.list_audit.specs.Owing.{AllExist, AreOwed}
