@@ -1,5 +1,5 @@
 -- The document, and then the stamp.
-use Rattle.std.proofs.Common.{◌≡◌, ◌∙◌, ◌++◌, ℕ, List, ap, sym, subst}
+use Rattle.std.proofs.Common.{◌≡◌, ◌∙◌, ◌++◌, ℕ, List, ap, arith, sym, subst}
 use Rattle.cell_types.proofs.Passed.{handed}
 use Rattle.host_ports.specs.Memories.{GatheredBytes}
 use Rattle.worm_device.proofs.Resting.{viewed_then}
@@ -15,10 +15,16 @@ stamp_for-requires-clause-part g c =
     has_part_on c.args.volume.now.geometry (g.V.View.seen c.args.view.now) (g.V.View.seen c.take_part.new.view)
     c.args.part.now c.take_part.ensures.viewed c.requires.part
 
+-- a call of the sink failed: then memory lacked
+pub unreachable-requires : goal.unreachable-requires
+unreachable-requires g c =
+    let h = rw c.in-Err-SinkFault.field-0-is at c.in-Err-SinkFault.ensures in
+    omega (arith, h.ends.1, ap (λ (m : GatheredBytes). m.faults) c.in_ok-body.ensures, c.in_default.ensures)
+
 pub returns-in_err-stamp-clause-ends : goal.returns-in_err-stamp-clause-ends
 returns-in_err-stamp-clause-ends g c =
     let refusal = c.in_err-stamp.field-0.0 in
-    rw (handed c.from_residual.result refusal c.from_residual.ensures.1)
+    rw (handed c.from_residual-in_err-stamp.result refusal c.from_residual-in_err-stamp.ensures.1)
     (fails_later c.args.volume.now.geometry c.args.part.now.slot c.take_part.ensures.viewed c.stamp_for.ensures.viewed
     refusal c.in_err-stamp.ensures.ends)
 
