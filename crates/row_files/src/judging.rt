@@ -1,6 +1,5 @@
 //! Which rows of files agree.
-use cell_types::NoMemory;
-use std::alloc::Global;
+use std::alloc::{AllocError, Global};
 use std::rt::{Env, Files};
 use std::{env, fs, io};
 
@@ -14,7 +13,7 @@ pub struct Tally {
 /// What carries out rows.
 pub trait Judge {
     /// Carries out the rows of a text.
-    fn judge(alloc: Global, text: &str) -> Result<Tally, NoMemory>;
+    fn judge(alloc: Global, text: &str) -> Result<Tally, AllocError>;
 }
 
 /// Judges the rows of each file that an argument names, and prints what came of them. A row that does not agree is an

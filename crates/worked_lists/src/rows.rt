@@ -8,29 +8,34 @@ pub struct Rows;
 
 impl Judge for Rows {
     fn judge(alloc: Global, text: &str) -> Result<Tally, AllocError> {
-        let mut world = World::new(alloc)?;
-        let mut rows: usize = 0;
-        let mut wrong = Vec::new(alloc);
-        let mut name = String::new(alloc);
-        let mut is_wrong = false;
-        for (at, line) in text.lines().enumerate() {
-            if line.trim().is_empty() || line.starts_with("--") {
-                continue;
-            }
-            if let Some(next) = line.strip_prefix("row ") {
-                rows = rows.saturating_add(1);
-                name = String::from_str(alloc, next)?;
-                is_wrong = false;
-            } else if !is_wrong {
-                if let Some(said) = what_is_wrong(alloc, &mut world, line)? {
-                    let (name, number) = (name.as_str(), at.saturating_add(1));
-                    wrong.push(format!(in alloc; "{name}: line {number}: {said}")?)?;
-                    is_wrong = true;
-                }
+        carry_out_rows(alloc, text)
+    }
+}
+
+/// Carries out the rows of a text.
+fn carry_out_rows(alloc: Global, text: &str) -> Result<Tally, AllocError> {
+    let mut world = World::new(alloc)?;
+    let mut rows: usize = 0;
+    let mut wrong = Vec::new(alloc);
+    let mut name = String::new(alloc);
+    let mut is_wrong = false;
+    for (at, line) in text.lines().enumerate() {
+        if line.trim().is_empty() || line.starts_with("--") {
+            continue;
+        }
+        if let Some(next) = line.strip_prefix("row ") {
+            rows = rows.saturating_add(1);
+            name = String::from_str(alloc, next)?;
+            is_wrong = false;
+        } else if !is_wrong {
+            if let Some(said) = what_is_wrong(alloc, &mut world, line)? {
+                let (name, number) = (name.as_str(), at.saturating_add(1));
+                wrong.push(format!(in alloc; "{name}: line {number}: {said}")?)?;
+                is_wrong = true;
             }
         }
-        Ok(Tally { rows, wrong })
     }
+    Ok(Tally { rows, wrong })
 }
 
 /// What is said of a line if it is not so: the line, and what came. A line without an answer is to be done.

@@ -17,21 +17,26 @@ pub struct Rows;
 
 impl Judge for Rows {
     fn judge(alloc: Global, text: &str) -> Result<Tally, AllocError> {
-        let lines = written_out(alloc, text)?;
-        let mut rows: usize = 0;
-        let mut wrong = Vec::new(alloc);
-        let mut row = Row::new(alloc);
-        for line in &lines {
-            if let Some(name) = line.text.as_str().strip_prefix("row ") {
-                rows = rows.saturating_add(1);
-                push(&mut wrong, row.begin(alloc, name)?)?;
-            } else {
-                row.carry_out(alloc, line.number, line.text.as_str())?;
-            }
-        }
-        push(&mut wrong, row.begin(alloc, "")?)?;
-        Ok(Tally { rows, wrong })
+        carry_out_rows(alloc, text)
     }
+}
+
+/// Carries out the rows of a text.
+fn carry_out_rows(alloc: Global, text: &str) -> Result<Tally, AllocError> {
+    let lines = written_out(alloc, text)?;
+    let mut rows: usize = 0;
+    let mut wrong = Vec::new(alloc);
+    let mut row = Row::new(alloc);
+    for line in &lines {
+        if let Some(name) = line.text.as_str().strip_prefix("row ") {
+            rows = rows.saturating_add(1);
+            push(&mut wrong, row.begin(alloc, name)?)?;
+        } else {
+            row.carry_out(alloc, line.number, line.text.as_str())?;
+        }
+    }
+    push(&mut wrong, row.begin(alloc, "")?)?;
+    Ok(Tally { rows, wrong })
 }
 
 /// Puts a line behind these, if there is one.
