@@ -4,20 +4,11 @@ use Rattle.std.specs.Prelude.{IsTrue, length, slice_get}
 use Rattle.std.proofs.lemmas.Bool.{cases_lt}
 use Rattle.std.proofs.lemmas.Option.{same_Some, slice_get_within}
 use Rattle.cell_types.specs.Layout.{Layout}
-use Rattle.volume_meaning.specs.Blocks.{PostingFields}
 use Rattle.volume_meaning.specs.Postings.{ListedPosting}
 use Rattle.worm_device.specs.Views.{ViewState}
 use Rattle.worm_device.proofs.Resting.{viewed_self, viewed_then}
 use Rattle.kept_documents.specs.Postings.{AsksRow, AsksRows, IsTrailed, RowsSoFar}
 use Rattle.kept_documents.proofs.Leading.{trail_later}
-
--- what is asked for is the posting of these three
-pub the_posting : (p : PostingFields) (key last : ℕ) (tag : List ℕ) → key ≡ p.key → last ≡ p.last → tag ≡ p.tag
-    → record { key = key; last = last; tag = tag } ≡ p
-the_posting p key last tag a b c =
-    ap (λ (k : ℕ). record { key = k; last = last; tag = tag }) a
-    ∙ ap (λ (l : ℕ). record { key = p.key; last = l; tag = tag }) b
-    ∙ ap (λ (t : List ℕ). record { key = p.key; last = p.last; tag = t }) c
 
 pub none_asked : (g : Layout) (rows : List ListedPosting) (old : ViewState) → RowsSoFar g rows 0 old old
 none_asked g rows old = record { viewed = viewed_self old; each = λ tells i row less is. absurd (omega (arith, less)) }

@@ -10,8 +10,9 @@ use Rattle.volume_meaning.proofs.Holding.{one_record_holds, some_is}
 use Rattle.worm_device.specs.Looks.{IsSeen, LookEnds}
 use Rattle.worm_device.specs.Views.{ViewState, Viewed}
 use Rattle.worm_device.specs.declared.looks.Found.TheVariants.{Blank, Record, Stray}
-use Rattle.kept_documents.specs.NodeCells.{AsksBucketCell, AsksChildCell, IsBucketOf, IsChildOf}
-use Rattle.kept_documents.specs.declared.node_cells.HeldBucket.{HeldBucket}
+use Rattle.kept_documents.specs.NodeCells.{AsksBucketCell, AsksChildCell, IsChildOf}
+use Rattle.volume_meaning.specs.Buckets.{IsBucketOf}
+use Rattle.volume_meaning.specs.declared.held_bucket.HeldBucket.{HeldBucket}
 
 module _ (at : ℕ) (old new : ViewState) (viewed : Viewed old new) where
   -- a cell in which no record was found held none before

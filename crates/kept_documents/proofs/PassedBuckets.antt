@@ -1,6 +1,7 @@
 -- Whether a bucket is passed, over plain values.
 use Rattle.std.proofs.Common.{◌≡◌, ◌≢◌, ◌≤◌, ⊎_elim, inl, inr, ℕ, List, Bool, true, false, None, Result, Ok, Err, refl, ap, sym, subst, arith, ◌∙◌}
 use Rattle.std.proofs.lemmas.Option.{none-some}
+use Rattle.std.specs.Prelude.{◌↔◌, IsTrue}
 use Rattle.sha2.specs.Sha256.{sha256}
 use Rattle.cell_types.specs.Image.{Image, Extends}
 use Rattle.cell_types.specs.Layout.{Layout, outcome_at, reserve_at}
@@ -23,9 +24,9 @@ use Rattle.commit_record.proofs.Breaking.{no_both}
 use Rattle.document_store.specs.Looks.{LookFails, NamesDocument, PartEnds, SameEnds, of_document, of_state}
 use Rattle.document_store.specs.Standing.{HoldsDocument}
 use Rattle.document_store.proofs.Holding.{held_is_done, held_stands, stands_held}
-use Rattle.kept_documents.specs.HashTrails.{AsksPassed, HasFingerprint, IsOtherBucket}
+use Rattle.kept_documents.specs.HashTrails.{AsksPassed, IsOtherBucket}
 use Rattle.kept_documents.specs.Trails.{IsRefuted}
-use Rattle.kept_documents.specs.declared.node_cells.HeldBucket.{HeldBucket}
+use Rattle.volume_meaning.specs.declared.held_bucket.HeldBucket.{HeldBucket}
 
 no_yes : false ≡ true → ⊥
 no_yes e = cc
@@ -83,13 +84,13 @@ module _ (g : Layout) (id digest : List ℕ) (b : HeldBucket) (old : ViewState) 
   fingerprint_is = ap fingerprint_of is
 
   -- another fingerprint
-  pub by_fingerprint : HasFingerprint b digest false → AsksPassed g id b old old (Ok true)
+  pub by_fingerprint : (IsTrue false ↔ (b.fingerprint ≡ fingerprint_of digest)) → AsksPassed g id b old old (Ok true)
   by_fingerprint says = record {
     viewed = viewed_self old;
     ends = λ tells volume. inl (λ same. no_yes (says.1 (same ∙ sym fingerprint_is)));
   }
 
-  module _ (says : HasFingerprint b digest true) where
+  module _ (says : IsTrue true ↔ (b.fingerprint ≡ fingerprint_of digest)) where
     same_fingerprint : b.fingerprint ≡ fingerprint_of (sha256 id)
     same_fingerprint = says.0 refl ∙ fingerprint_is
 

@@ -1,6 +1,6 @@
 -- A hash trail from one node on, over plain values.
 use Rattle.std.proofs.Common.{◌≡◌, ◌<◌, ◌≤◌, ◌+◌, ◌⊎◌, ⊎_elim, inl, inr, ℕ, List, Bool, true, false, None, Some, Result, Ok, Err, refl, ap, sym, subst, arith, ◌∙◌}
-use Rattle.std.specs.Prelude.{IsTrue}
+use Rattle.std.specs.Prelude.{◌↔◌, IsTrue}
 use Rattle.sha2.specs.Sha256.{sha256}
 use Rattle.cell_types.specs.Image.{Image}
 use Rattle.cell_types.specs.Layout.{Layout, pool_at}
@@ -17,8 +17,9 @@ use Rattle.worm_device.specs.declared.device.Failed.{Failed}
 use Rattle.worm_device.proofs.Resting.{viewed_then}
 use Rattle.jump_block.proofs.Counting as counts
 use Rattle.kept_documents.specs.NodeCells.{AsksBucketCell, AsksChildCell}
-use Rattle.kept_documents.specs.HashTrails.{AsksPassed, AsksPath, HasHashTrail, IsOtherBucket, IsOwnBucket}
-use Rattle.kept_documents.specs.declared.node_cells.HeldBucket.{HeldBucket}
+use Rattle.kept_documents.specs.HashTrails.{AsksPassed, AsksPath, HasHashTrail, IsOtherBucket}
+use Rattle.volume_meaning.specs.Buckets.{IsOwnBucket}
+use Rattle.volume_meaning.specs.declared.held_bucket.HeldBucket.{HeldBucket}
 use Rattle.kept_documents.proofs.PassedBuckets.{stands_later, volume_later}
 
 no_yes : false ≡ true → ⊥
@@ -74,7 +75,7 @@ module _ (g : Layout) (id digest : List ℕ) (n node level at : ℕ) (old mid : 
     told tells = subst IsTrue (sym read.viewed.called.tells) tells
 
     -- it is the slot's own
-    pub own_bucket : IsOwnBucket b n digest true → AsksPath g id n node level old mid (Ok true)
+    pub own_bucket : (IsTrue true ↔ IsOwnBucket b n digest) → AsksPath g id n node level old mid (Ok true)
     own_bucket says = record {
       viewed = read.viewed;
       ends = λ tells volume.
@@ -85,7 +86,7 @@ module _ (g : Layout) (id digest : List ℕ) (n node level at : ℕ) (old mid : 
           (subst (λ (m : ℕ). Holds mid.image at (records.Bucket m b.fingerprint)) same.0 (read.ends tells))));
     }
 
-    module _ (other : IsOwnBucket b n digest false) where
+    module _ (other : IsTrue false ↔ IsOwnBucket b n digest) where
       -- then a hash trail passes it and goes on below
       goes_below : IsTrue old.base.tells → HasHashTrail g mid id n node level
           → IsOtherBucket g mid id b × ((target : ℕ) × LeadsDown mid.image (sought_in mid.cells g id) node level target

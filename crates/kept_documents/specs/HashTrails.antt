@@ -1,15 +1,15 @@
 -- Whether a slot has a hash trail as that of an identifier, as a call over a view answers it.
-use Rattle.std.specs.Prelude.{◌≡◌, ◌≢◌, ◌↔◌, ◌⊎◌, ℕ, Bool, true, false, List, Result, Ok, Err, IsTrue}
+use Rattle.std.specs.Prelude.{◌≢◌, ◌⊎◌, ℕ, Bool, true, false, List, Result, Ok, Err, IsTrue}
 use Rattle.sha2.specs.Sha256.{sha256}
 use Rattle.cell_types.specs.Layout.{Layout}
 use Rattle.volume_meaning.specs.Documents.{Stands}
 use Rattle.volume_meaning.specs.Volumes.{IsVolume}
 use Rattle.volume_meaning.specs.HashPaths.{HashTrail, fingerprint_of}
 use Rattle.volume_meaning.specs.Keeping.{sought_in}
+use Rattle.volume_meaning.specs.declared.held_bucket.HeldBucket.{HeldBucket}
 use Rattle.worm_device.specs.Counts.{Rose}
 use Rattle.worm_device.specs.Views.{ViewState, Viewed}
 use Rattle.worm_device.specs.declared.device.Failed.{Failed}
-use Rattle.kept_documents.specs.declared.node_cells.HeldBucket.{HeldBucket}
 
 -- slot n has a hash trail from the node of this level
 abbrev pub HasHashTrail : Layout → ViewState → List ℕ → ℕ → ℕ → ℕ → Type 0
@@ -29,15 +29,7 @@ pub record AsksPath (g : Layout) (id : List ℕ) (n node level : ℕ) (old new :
   pub viewed : Viewed old new
   pub ends : PathAnswer g id n node level old new result
 
--- whether a bucket has the digest's fingerprint
-abbrev pub HasFingerprint : HeldBucket → List ℕ → Bool → Type 0
-HasFingerprint b digest answer = IsTrue answer ↔ (b.fingerprint ≡ fingerprint_of digest)
-
--- whether it is the slot's own
-abbrev pub IsOwnBucket : HeldBucket → ℕ → List ℕ → Bool → Type 0
-IsOwnBucket b n digest answer = IsTrue answer ↔ ((b.slot ≡ n) × (b.fingerprint ≡ fingerprint_of digest))
-
--- such a bucket is passed: it has another fingerprint, or its slot stands with another identifier
+-- a bucket is passed: it has another fingerprint, or its slot stands with another identifier
 abbrev pub IsOtherBucket : Layout → ViewState → List ℕ → HeldBucket → Type 0
 IsOtherBucket g s id b =
     (b.fingerprint ≢ fingerprint_of (sha256 id))

@@ -3,15 +3,10 @@ use Rattle.std.specs.Prelude.{◌≡◌, ℕ, List, Option, Some, None, Result, 
 use Rattle.cell_types.specs.declared.record_cell.RecordCell.{RecordCell}
 use Rattle.cell_types.specs.declared.record_cell.RecordCell.TheVariants as records
 use Rattle.volume_meaning.specs.Volumes.{Holds}
+use Rattle.volume_meaning.specs.declared.held_bucket.HeldBucket.{HeldBucket}
 use Rattle.worm_device.specs.Counts.{Rose}
 use Rattle.worm_device.specs.Views.{ViewState, Viewed}
 use Rattle.worm_device.specs.declared.device.Failed.{Failed}
-use Rattle.kept_documents.specs.declared.node_cells.HeldBucket.{HeldBucket}
-
--- the record is this bucket, or none
-abbrev pub IsBucketOf : RecordCell → Option HeldBucket → Type 0
-IsBucketOf r None = (slot : ℕ) (fingerprint : List ℕ) → r ≡ records.Bucket slot fingerprint → ⊥
-IsBucketOf r (Some b) = r ≡ records.Bucket b.slot b.fingerprint
 
 -- the record is a child cell with this target, or none
 abbrev pub IsChildOf : RecordCell → Option ℕ → Type 0

@@ -7,13 +7,8 @@ use Rattle.worm_device.specs.Counts.{Rose}
 use Rattle.worm_device.specs.Views.{ViewState, Viewed}
 use Rattle.worm_device.specs.declared.device.Failed.{Failed}
 use Rattle.jump_block.specs.Pointing.{HasKeyIn}
-use Rattle.kept_documents.specs.declared.wanted.Wanted.{Wanted}
 
--- the posting that is asked for
-abbrev pub wanted_posting : Wanted → PostingFields
-wanted_posting w = record { key = w.key; last = w.last; tag = w.tag }
-
--- it has a trail from the block, in what the view shows, through blocks from this cell on
+-- the posting has a trail from the block, in what the view shows, through blocks from this cell on
 abbrev pub HasTrailFrom : ℕ → ViewState → ℕ → PostingFields → Type 0
 HasTrailFrom pool s block p = (at : ℕ) × Trail s.image pool s.cells at p block
 

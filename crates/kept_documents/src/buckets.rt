@@ -1,30 +1,13 @@
 //! Whether a bucket is passed.
 ghost use Rattle.std.specs.Prelude.{◌≡◌, ◌≤◌};
 ghost use Rattle.sha2.specs.Sha256.{sha256};
-ghost use Rattle.kept_documents.specs.HashTrails.{AsksPassed, HasFingerprint, IsOwnBucket};
+ghost use Rattle.kept_documents.specs.HashTrails.{AsksPassed};
 
-use crate::node_cells::HeldBucket;
 use crate::refuted::refuted;
 use cell_types::Volume;
 use document_store::{same_identifier, slot_part};
+use volume_meaning::HeldBucket;
 use worm_device::{Failed, View};
-
-/// Whether the bucket has the first seven bytes of the digest.
-pub fn has_fingerprint(bucket: &HeldBucket, digest: &[u8; 32]) -> bool
-    ensures { HasFingerprint bucket.now digest.now result }
-{
-    bucket.fingerprint[..] == digest[..7]
-}
-
-/// Whether the bucket is the slot's own.
-pub fn is_own(bucket: &HeldBucket, slot: u32, digest: &[u8; 32]) -> bool
-    ensures { IsOwnBucket bucket.now slot digest.now result }
-{
-    if bucket.slot != slot {
-        return false;
-    }
-    has_fingerprint(bucket, digest)
-}
 
 /// Whether the bucket is passed: it has another fingerprint, or its slot stands with another identifier.
 pub(crate) fn is_passed<V: View>(
@@ -38,7 +21,7 @@ pub(crate) fn is_passed<V: View>(
     requires digest { digest.now ≡ sha256 id.now }
     ensures { AsksPassed volume.now.geometry id.now bucket.now (V.seen view.old) (V.seen view.new) result }
 {
-    if !has_fingerprint(bucket, digest) {
+    if !bucket.has_fingerprint(digest) {
         return Ok(true);
     }
     if bucket.slot >= volume.geometry.slots() {

@@ -5,12 +5,10 @@ ghost use Rattle.cell_types.specs.Layout.{root_at};
 ghost use Rattle.volume_meaning.specs.declared.nodes.TheConstants.{NODE_CELLS};
 ghost use Rattle.kept_documents.specs.HashTrails.{AsksPath};
 
-use crate::buckets::{is_own, is_passed};
+use crate::buckets::is_passed;
 use crate::node_cells::{bucket_at, child_at};
 use cell_types::Volume;
-use hash_tree::nibble_of;
-use sha2::{Digest, Sha256};
-use volume_meaning::NODE_BUCKETS;
+use volume_meaning::{NODE_BUCKETS, digest_of, nibble_of};
 use worm_device::{Failed, View};
 
 /// A digest has 64 half bytes, so there is no level below this one.
@@ -32,7 +30,7 @@ pub fn has_hash_trail<V: View>(
     ensures { AsksPath volume.now.geometry id.now slot (root_at volume.now.geometry) 0 (V.seen view.old)
         (V.seen view.new) result }
 {
-    let digest = Sha256::digest(id);
+    let digest = digest_of(id);
     leads_down(
         view,
         volume,
@@ -67,7 +65,7 @@ fn leads_down<V: View>(
     let Some(bucket) = found else {
         return Ok(false);
     };
-    if is_own(&bucket, slot, digest) {
+    if bucket.is_own(slot, digest) {
         return Ok(true);
     }
     let Ok(passed) = is_passed(view, volume, &bucket, id, digest) else {

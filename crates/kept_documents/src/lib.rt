@@ -18,9 +18,9 @@
 //! is asked in turn, and the first no is the answer. `is_kept` takes memory for the body and its words, and reads each cell
 //! of the document once; `kept_document` is the same and hands on what was read. The others take no memory.
 //!
-//! Stands on `jump_block` (one block), `hash_tree` (half bytes), `document_store` (documents), `word_reader` and
-//! `term_tags` (postings). Begin with `kept.rt`, and of trails with `trails.rt`; `specs/Kept.antt` says what an answer
-//! means.
+//! Stands on `jump_block` (one block), `document_store` (documents), `word_reader` and `term_tags` (postings), and
+//! `volume_meaning` (buckets and half bytes). Begin with `kept.rt`, and of trails with `trails.rt`; `specs/Kept.antt`
+//! says what an answer means.
 #![tactic(auto)]
 
 mod buckets;
@@ -33,13 +33,10 @@ mod refuted;
 mod rows;
 mod stamps;
 mod trails;
-mod wanted;
 
-pub use buckets::{has_fingerprint, is_own};
 pub use fault::AskFault;
 pub use hash_trails::has_hash_trail;
 pub use kept::{KeptDocument, is_kept, kept_document};
-pub use node_cells::{HeldBucket, bucket_at, child_at};
+pub use node_cells::{bucket_at, child_at};
 pub use stamps::{SlotStamp, slot_stamp};
 pub use trails::has_trail;
-pub use wanted::Wanted;

@@ -1,16 +1,10 @@
 //! What the cells of a node hold.
 ghost use Rattle.std.specs.Prelude.{◌<◌};
-ghost use Rattle.kept_documents.specs.NodeCells.{AsksBucketCell, AsksChildCell, IsBucketOf, IsChildOf};
+ghost use Rattle.kept_documents.specs.NodeCells.{AsksBucketCell, AsksChildCell, IsChildOf};
 
 use cell_types::RecordCell;
+use volume_meaning::HeldBucket;
 use worm_device::{Failed, Found, View, look};
-
-/// What a bucket says: the slot of a document, and the first bytes of its identifier's digest.
-#[derive(Clone, Copy, Debug, PartialEq, Eq)]
-pub struct HeldBucket {
-    pub slot: u32,
-    pub fingerprint: [u8; 7],
-}
 
 /// The bucket in a cell, `None` where it holds none.
 pub fn bucket_at<V: View>(view: &mut V, at: u32) -> Result<Option<HeldBucket>, Failed>
@@ -21,7 +15,7 @@ pub fn bucket_at<V: View>(view: &mut V, at: u32) -> Result<Option<HeldBucket>, F
     match seen {
         Found::Blank => Ok(None),
         Found::Stray(_found) => Ok(None),
-        Found::Record(_found, held) => Ok(bucket_of(held)),
+        Found::Record(_found, held) => Ok(HeldBucket::of(held)),
     }
 }
 
@@ -36,16 +30,6 @@ pub fn child_at<V: View>(view: &mut V, at: u32) -> Result<Option<u32>, Failed>
         Found::Stray(_found) => Ok(None),
         Found::Record(_found, held) => Ok(child_of(held)),
     }
-}
-
-/// The bucket that this record is.
-fn bucket_of(held: RecordCell) -> Option<HeldBucket>
-    ensures { IsBucketOf held result }
-{
-    let RecordCell::Bucket { slot, fingerprint } = held else {
-        return None;
-    };
-    Some(HeldBucket { slot, fingerprint })
 }
 
 /// Where the child cell leads that this record is.

@@ -4,7 +4,6 @@ ghost use Rattle.cell_types.specs.Layout.{all_lists};
 ghost use Rattle.kept_documents.specs.Postings.{AreOfLists, AsksRow, AsksRows};
 
 use crate::trails::has_trail;
-use crate::wanted::Wanted;
 use cell_types::Geometry;
 use term_tags::ListedPosting;
 use worm_device::{Failed, View};
@@ -40,15 +39,10 @@ fn is_trailed<V: View>(
     requires list { row.now.list < all_lists geometry.now }
     ensures { AsksRow geometry.now row.now (V.seen view.old) (V.seen view.new) result }
 {
-    let wanted = Wanted {
-        key: row.key(),
-        last: row.last(),
-        tag: row.tag(),
-    };
     has_trail(
         view,
         geometry.pool_at(),
         geometry.list_at(row.list()),
-        wanted,
+        row.posting(),
     )
 }

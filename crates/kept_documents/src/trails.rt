@@ -1,11 +1,12 @@
 //! Whether a posting has a trail.
-ghost use Rattle.std.specs.Prelude.{◌<◌, ◌≤◌, ◌+◌, ◌^◌};
+ghost use Rattle.std.specs.Prelude.{◌≡◌, ◌↔◌, ◌<◌, ◌≤◌, ◌+◌, ◌^◌, IsTrue};
 ghost use Rattle.volume_meaning.specs.declared.blocks.TheConstants.{BLOCK_CELLS};
-ghost use Rattle.kept_documents.specs.Trails.{AsksTrail, AsksBlock, wanted_posting};
+ghost use Rattle.jump_block.specs.Entries.{posting_of};
+ghost use Rattle.kept_documents.specs.Trails.{AsksTrail, AsksBlock};
 
-use crate::Wanted;
 use crate::refuted::refuted;
-use jump_block::{Front, KnownFront, first_from_known, pointer, span};
+use jump_block::{Entry, Front, KnownFront, first_from_known, pointer, span};
+use volume_meaning::PostingFields;
 use worm_device::{Failed, View};
 
 /// Whether the posting has a trail from a list's first block, through blocks from the pool's start on.
@@ -17,10 +18,10 @@ pub fn has_trail<V: View>(
     view: &mut V,
     pool: u32,
     head: u32,
-    wanted: Wanted,
+    wanted: PostingFields,
 ) -> Result<bool, Failed>
     requires head { head + BLOCK_CELLS ≤ (V.seen view.old).cells }
-    ensures { AsksTrail pool head (wanted_posting wanted) (V.seen view.old) (V.seen view.new) result }
+    ensures { AsksTrail pool head wanted (V.seen view.old) (V.seen view.new) result }
 {
     leads_to(view, pool, wanted, head, 0, 1 << 32, 8)
 }
@@ -30,7 +31,7 @@ pub fn has_trail<V: View>(
 fn leads_to<V: View>(
     view: &mut V,
     pool: u32,
-    wanted: Wanted,
+    wanted: PostingFields,
     block: u32,
     low: u64,
     bound: u64,
@@ -41,7 +42,7 @@ fn leads_to<V: View>(
     requires from { low ≤ wanted.key }
     requires below { wanted.key < bound }
     requires level { level ≤ 8 }
-    ensures { AsksBlock pool block (wanted_posting wanted) low bound (V.seen view.old) (V.seen view.new) result }
+    ensures { AsksBlock pool block wanted low bound (V.seen view.old) (V.seen view.new) result }
 {
     // Place by place, so that no place behind the posting is read.
     let mut known = KnownFront {
@@ -54,7 +55,7 @@ fn leads_to<V: View>(
         Err(fault) => return refuted(fault),
     };
     let l = match front {
-        Front::At(next) => return Ok(wanted.is(&next)),
+        Front::At(next) => return Ok(is_posting(&next, &wanted)),
         Front::Open(_, _) => return Ok(false),
         Front::Full(l) => l,
     };
@@ -85,4 +86,11 @@ fn leads_to<V: View>(
         first.high,
         first.level,
     )
+}
+
+/// Whether the entry is this posting.
+fn is_posting(entry: &Entry, posting: &PostingFields) -> bool
+    ensures { IsTrue result ↔ (posting_of entry.now ≡ posting.now) }
+{
+    entry.posting() == *posting
 }

@@ -2,10 +2,11 @@
 ghost use Rattle.std.specs.Prelude.{◌<◌, ◌≤◌, ◌+◌};
 ghost use Rattle.volume_meaning.specs.declared.blocks.TheConstants.{BLOCK_CELLS};
 ghost use Rattle.kept_documents.specs.Kept.{AsksKept};
-ghost use Rattle.kept_documents.specs.Trails.{AsksTrail, wanted_posting};
+ghost use Rattle.kept_documents.specs.Trails.{AsksTrail};
 
-use kept_documents::{AskFault, Wanted, has_trail, is_kept};
+use kept_documents::{AskFault, has_trail, is_kept};
 use std::alloc::Global;
+use volume_meaning::PostingFields;
 use worm_device::{Failed, View};
 
 /// `is_kept`.
@@ -26,10 +27,10 @@ pub fn has_trail_again<V: View>(
     view: &mut V,
     pool: u32,
     head: u32,
-    wanted: Wanted,
+    wanted: PostingFields,
 ) -> Result<bool, Failed>
     requires head { head + BLOCK_CELLS ≤ (V.seen view.old).cells }
-    ensures { AsksTrail pool head (wanted_posting wanted) (V.seen view.old) (V.seen view.new) result }
+    ensures { AsksTrail pool head wanted (V.seen view.old) (V.seen view.new) result }
 {
     has_trail(view, pool, head, wanted)
 }

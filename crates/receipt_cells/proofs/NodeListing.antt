@@ -1,17 +1,17 @@
 -- The slot of a bucket that is passed, over plain values.
 use Rattle.std.proofs.Common.{◌≡◌, ℕ, List, true, Result, Ok, Err, refl}
+use Rattle.std.specs.Prelude.{◌↔◌, IsTrue}
 use Rattle.cell_types.specs.Layout.{Layout}
 use Rattle.volume_meaning.specs.HashPaths.{fingerprint_of}
 use Rattle.worm_device.specs.Views.{ViewState}
-use Rattle.kept_documents.specs.HashTrails.{HasFingerprint}
 use Rattle.kept_documents.specs.declared.fault.AskFault.{AskFault}
-use Rattle.kept_documents.specs.declared.node_cells.HeldBucket.{HeldBucket}
+use Rattle.volume_meaning.specs.declared.held_bucket.HeldBucket.{HeldBucket}
 use Rattle.receipt_cells.specs.Needed.{SlotRests}
 use Rattle.receipt_cells.specs.Path.{IsOfMate, ListsMate, ListsSlot}
 use Rattle.receipt_cells.proofs.Listing.{just_as}
 
 module _ (g : Layout) (digest : List ℕ) (b : HeldBucket) (old : ViewState) (listed : List (ℕ × List ℕ)) where
-  module _ (says : HasFingerprint b digest true) where
+  module _ (says : IsTrue true ↔ (b.fingerprint ≡ fingerprint_of digest)) where
     same : b.fingerprint ≡ fingerprint_of digest
     same = says.0 refl
 

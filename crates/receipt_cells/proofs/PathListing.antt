@@ -1,6 +1,6 @@
 -- The cells of a hash path, over plain values.
 use Rattle.std.proofs.Common.{◌≡◌, ◌≢◌, ◌<◌, ◌+◌, ◌⊎◌, inl, inr, ⊎_elim, ℕ, List, true, false, Some, None, Result, Ok, Err, refl, ap, sym, subst, arith, ◌∙◌}
-use Rattle.std.specs.Prelude.{IsTrue}
+use Rattle.std.specs.Prelude.{◌↔◌, IsTrue}
 use Rattle.sha2.specs.Sha256.{sha256}
 use Rattle.cell_types.specs.Image.{Image, Extends}
 use Rattle.cell_types.specs.Layout.{Layout}
@@ -16,9 +16,9 @@ use Rattle.volume_meaning.proofs.Holding.{one_record_holds}
 use Rattle.worm_device.specs.Views.{ViewState, Viewed}
 use Rattle.worm_device.proofs.Resting.{viewed_then}
 use Rattle.document_store.proofs.Holding.{held_is_done, stands_held}
-use Rattle.kept_documents.specs.HashTrails.{IsOwnBucket}
+use Rattle.volume_meaning.specs.Buckets.{IsOwnBucket}
 use Rattle.kept_documents.specs.declared.fault.AskFault.{AskFault}
-use Rattle.kept_documents.specs.declared.node_cells.HeldBucket.{HeldBucket}
+use Rattle.volume_meaning.specs.declared.held_bucket.HeldBucket.{HeldBucket}
 use Rattle.kept_documents.proofs.PassedBuckets.{stands_later, volume_later}
 use Rattle.kept_documents.proofs.Pathing.{hash_trail_later}
 use Rattle.receipt_cells.specs.Needed.{PathRests, SlotRests, bucket_cell, child_cell, from_child, passed_slot}
@@ -156,7 +156,7 @@ module _ (g : Layout) (n : ℕ) (digest : List ℕ) (node level at : ℕ) (at_is
         (read.ends tells).0
 
     -- it is the slot's own
-    pub own_listed : IsOwnBucket b n digest true → ListsDown g n digest node level old mid listed first (Ok tt)
+    pub own_listed : (IsTrue true ↔ IsOwnBucket b n digest) → ListsDown g n digest node level old mid listed first (Ok tt)
     own_listed says = record {
       viewed = read.viewed;
       ends = λ id is tells volume body stands trail.
@@ -174,7 +174,7 @@ module _ (g : Layout) (n : ℕ) (digest : List ℕ) (node level at : ℕ) (at_is
           (read.ends tells).1;
     }
 
-    module _ (says : IsOwnBucket b n digest false) where
+    module _ (says : IsTrue false ↔ IsOwnBucket b n digest) where
       onward : (id : List ℕ) → digest ≡ sha256 id → IsTrue old.base.tells
           → HashTrail old.image (sought_in old.cells g id) n node level
           → IsPassed mid.image (sought_in mid.cells g id) (node + nibble (sha256 id) level)

@@ -10,11 +10,11 @@ use Rattle.volume_meaning.specs.Documents.{Stands}
 use Rattle.volume_meaning.specs.HashPaths.{HashTrail, fingerprint_of}
 use Rattle.volume_meaning.specs.Keeping.{sought_in}
 use Rattle.volume_meaning.specs.Volumes.{Holds, IsVolume}
+use Rattle.volume_meaning.specs.declared.held_bucket.HeldBucket.{HeldBucket}
 use Rattle.worm_device.specs.Counts.{Rose}
 use Rattle.worm_device.specs.Views.{ViewState, Viewed}
 use Rattle.kept_documents.specs.declared.fault.AskFault.{AskFault}
 use Rattle.kept_documents.specs.declared.fault.AskFault.TheVariants.{NoMemory, ReadFault}
-use Rattle.kept_documents.specs.declared.node_cells.HeldBucket.{HeldBucket}
 use Rattle.receipt_cells.specs.Needed.{ListsJust, PathRests, SlotRests}
 
 -- why a listing is given up; want of memory is free

@@ -5,8 +5,9 @@ ghost use Rattle.receipt_cells.specs.Path.{ListsBucket, ListsChild, ListsMate};
 use crate::cells::list_cell;
 use crate::slots::list_slot;
 use cell_types::Volume;
-use kept_documents::{AskFault, HeldBucket, bucket_at, child_at, has_fingerprint};
+use kept_documents::{AskFault, bucket_at, child_at};
 use receipt_text::ListedCells;
+use volume_meaning::HeldBucket;
 use worm_device::View;
 
 /// Lists the cell of a bucket, and answers the bucket. `None` where the cell holds none.
@@ -64,7 +65,7 @@ pub(crate) fn list_mate<V: View>(
     ensures { ListsMate volume.now.geometry digest.now bucket.now (V.seen view.old) (V.seen view.new) listed.old
         listed.new result }
 {
-    if !has_fingerprint(bucket, digest) {
+    if !bucket.has_fingerprint(digest) {
         return Ok(());
     }
     if bucket.slot >= volume.geometry.slots() {

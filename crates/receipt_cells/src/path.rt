@@ -5,11 +5,9 @@ ghost use Rattle.receipt_cells.specs.Path.{ListsDown, ListsPath};
 
 use crate::nodes::{list_bucket, list_child, list_mate};
 use cell_types::Volume;
-use hash_tree::nibble_of;
-use kept_documents::{AskFault, is_own};
+use kept_documents::AskFault;
 use receipt_text::ListedCells;
-use sha2::{Digest, Sha256};
-use volume_meaning::NODE_BUCKETS;
+use volume_meaning::{NODE_BUCKETS, digest_of, nibble_of};
 use worm_device::View;
 
 /// A digest has 64 half bytes, so there is no level below this one.
@@ -27,7 +25,7 @@ pub(crate) fn list_path<V: View>(
     ensures { ListsPath volume.now.geometry slot id.now (V.seen view.old) (V.seen view.new) listed.old listed.new
         result }
 {
-    let digest = Sha256::digest(id);
+    let digest = digest_of(id);
     list_down(
         view,
         volume,
@@ -64,7 +62,7 @@ fn list_down<V: View>(
     let Some(bucket) = found else {
         return Ok(());
     };
-    if is_own(&bucket, slot, digest) {
+    if bucket.is_own(slot, digest) {
         return Ok(());
     }
     if let Err(why) = list_mate(view, volume, &bucket, digest, listed) {

@@ -7,7 +7,7 @@ ghost use Rattle.receipt_cells.specs.Postings.{ListsPostings, ListsRow, ListsRow
 
 use crate::trails::list_trail;
 use cell_types::{Geometry, Refusal, Volume};
-use kept_documents::{AskFault, Wanted};
+use kept_documents::AskFault;
 use receipt_text::ListedCells;
 use std::alloc::Global;
 use term_tags::{ListedPosting, document_postings};
@@ -74,16 +74,11 @@ fn list_row<V: View>(
     requires list { row.now.list < all_lists geometry.now }
     ensures { ListsRow geometry.now row.now (V.seen view.old) (V.seen view.new) listed.old listed.new result }
 {
-    let wanted = Wanted {
-        key: row.key(),
-        last: row.last(),
-        tag: row.tag(),
-    };
     list_trail(
         view,
         geometry.pool_at(),
         geometry.list_at(row.list()),
-        wanted,
+        row.posting(),
         listed,
     )
 }

@@ -1,16 +1,15 @@
 //! The cells of a posting's trail.
 ghost use Rattle.std.specs.Prelude.{◌<◌, ◌≤◌, ◌+◌, ◌^◌};
 ghost use Rattle.volume_meaning.specs.declared.blocks.TheConstants.{BLOCK_CELLS, ENTRY_PLACES};
-ghost use Rattle.kept_documents.specs.Trails.{wanted_posting};
 ghost use Rattle.receipt_cells.specs.Trails.{HopCells, IsGivenUp, ListsBlock, ListsTrail};
 ghost use Rattle.receipt_cells.specs.Written.{IsInRow, ListsCells};
 
 use crate::cells::{list_cell, list_cells};
 use cell_types::Fault;
 use jump_block::{Entry, Front, KnownFront, Span, first_from_known, pointer, pointer_cell, span};
-use kept_documents::{AskFault, Wanted};
+use kept_documents::AskFault;
 use receipt_text::ListedCells;
-use volume_meaning::ENTRY_PLACES;
+use volume_meaning::{ENTRY_PLACES, PostingFields};
 use worm_device::View;
 
 /// Lists the cells of the posting's trail from a list's first block, through blocks from the pool's start on.
@@ -18,11 +17,11 @@ pub(crate) fn list_trail<V: View>(
     view: &mut V,
     pool: u32,
     head: u32,
-    wanted: Wanted,
+    wanted: PostingFields,
     listed: &mut ListedCells,
 ) -> Result<(), AskFault>
     requires head { head + BLOCK_CELLS ≤ (V.seen view.old).cells }
-    ensures { ListsTrail pool head (wanted_posting wanted) (V.seen view.old) (V.seen view.new) listed.old listed.new
+    ensures { ListsTrail pool head wanted (V.seen view.old) (V.seen view.new) listed.old listed.new
         result }
 {
     let every_key = Reached {
@@ -48,7 +47,7 @@ struct Reached {
 fn list_block<V: View>(
     view: &mut V,
     pool: u32,
-    wanted: Wanted,
+    wanted: PostingFields,
     reached: Reached,
     listed: &mut ListedCells,
 ) -> Result<(), AskFault>
@@ -57,7 +56,7 @@ fn list_block<V: View>(
     requires from { reached.low ≤ wanted.key }
     requires below { wanted.key < reached.bound }
     requires level { reached.level ≤ 8 }
-    ensures { ListsBlock pool reached.block (wanted_posting wanted) reached.low reached.bound (V.seen view.old)
+    ensures { ListsBlock pool reached.block wanted reached.low reached.bound (V.seen view.old)
         (V.seen view.new) listed.old listed.new result }
 {
     let block = reached.block;

@@ -2,9 +2,10 @@
 //! root is at 548, the pool at 580. Slot 0 holds the document `a`, `hello world` with its index.
 use cell_types::{Cell, RecordCell, encode};
 use commit_record::open;
-use kept_documents::{Wanted, has_hash_trail, has_trail, is_kept};
+use kept_documents::{has_hash_trail, has_trail, is_kept};
 use std::alloc::Global;
 use std::test::Fail;
+use volume_meaning::PostingFields;
 use worm_device::{Device, Direct};
 use worm_memory::MemoryDevice;
 
@@ -113,7 +114,7 @@ fn trailed(device: &mut MemoryDevice, key: u32, tag: [u8; 6]) -> Result<bool, Fa
     if device.cells() < 1_000 {
         return Err("too few cells".into());
     }
-    let wanted = Wanted {
+    let wanted = PostingFields {
         key,
         last: 255,
         tag,

@@ -12,5 +12,5 @@ returns-in-Stray g c =
 
 pub returns-in-Record : goal.returns-in-Record
 returns-in-Record g c =
-    bucket_found c.args.at _ _ c.in_ok-seen.ensures.viewed _ c.in-Record.held c.bucket_of.result
-    (rw c.in-Record.is at c.in_ok-seen.ensures.ends) c.bucket_of.ensures
+    bucket_found c.args.at _ _ c.in_ok-seen.ensures.viewed _ c.in-Record.held c.of.result
+    (rw c.in-Record.is at c.in_ok-seen.ensures.ends) c.of.ensures

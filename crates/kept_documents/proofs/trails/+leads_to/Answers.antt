@@ -1,7 +1,6 @@
 -- Each ending, by the lemma of its kind.
 use Rattle.std.proofs.Common.{inl, inr, arith}
 use Rattle.jump_block.proofs.OneBlock.{level_falls}
-use Rattle.kept_documents.specs.Trails.{wanted_posting}
 use Rattle.kept_documents.proofs.Leading.{at_blank, at_entry, at_fault, at_low, leads_out, lost_pointer, no_pointer, onward}
 use Rattle.kept_documents.proofs.trails.+leads_to.Goals as goal
 
@@ -9,28 +8,28 @@ use Rattle.kept_documents.proofs.trails.+leads_to.Goals as goal
 pub returns-in-Err : goal.returns-in-Err
 returns-in-Err g t c =
     let h = c.in-Err.ensures in
-    at_fault c.args.pool c.args.block c.args.low c.args.bound (wanted_posting c.args.wanted) _ _ h.viewed
+    at_fault c.args.pool c.args.block c.args.low c.args.bound c.args.wanted _ _ h.viewed
     c.in-Err.fault c.refuted.result h.ends c.refuted.ensures
 
 -- with an entry at or past the key
 pub returns-in-At : goal.returns-in-At
 returns-in-At g t c =
     let h = rw c.in-At.is at c.in-Ok.ensures in
-    at_entry c.args.pool c.args.block c.args.low c.args.bound (wanted_posting c.args.wanted) _ _ h.viewed
-    c.in-At.next c.is.result h.ends c.is.ensures c.requires.from c.requires.below
+    at_entry c.args.pool c.args.block c.args.low c.args.bound c.args.wanted _ _ h.viewed
+    c.in-At.next c.is_posting.result h.ends c.is_posting.ensures c.requires.from c.requires.below
 
 -- with a blank place
 pub returns-in-Open : goal.returns-in-Open
 returns-in-Open g t c =
     let h = rw c.in-Open.is at c.in-Ok.ensures in
-    at_blank c.args.pool c.args.block c.args.low c.args.bound (wanted_posting c.args.wanted) _ _ h.viewed
+    at_blank c.args.pool c.args.block c.args.low c.args.bound c.args.wanted _ _ h.viewed
     c.in-Open.field-0 c.in-Open.field-1 h.ends
 
 -- the block is full, with no key of the span
 pub returns-then-from-low : goal.returns-then-from-low
 returns-then-from-low g t c =
     let h = rw c.in-Full.is at c.in-Ok.ensures in
-    at_low c.args.pool c.args.block c.args.low c.args.bound (wanted_posting c.args.wanted) _ _ h.viewed
+    at_low c.args.pool c.args.block c.args.low c.args.bound c.args.wanted _ _ h.viewed
     c.in-Full.l h.ends (omega arith)
 
 -- the pointer is no jump cell
@@ -38,7 +37,7 @@ pub returns-in-Err-pointer : goal.returns-in-Err-pointer
 returns-in-Err-pointer g t c =
     let h = rw c.in-Full.is at c.in-Ok.ensures in
     let s = c.span-first.ensures in
-    lost_pointer c.args.pool c.args.block c.args.low c.args.bound (wanted_posting c.args.wanted) _ _ h.viewed _
+    lost_pointer c.args.pool c.args.block c.args.low c.args.bound c.args.wanted _ _ h.viewed _
     c.in-Full.l c.span-first.result s.is s.low s.high h.ends.1 c.in-Err-pointer.fault
     c.refuted-in-Err-pointer.result c.in-Err-pointer.ensures c.refuted-in-Err-pointer.ensures
 
@@ -47,7 +46,7 @@ pub returns-in_default : goal.returns-in_default
 returns-in_default g t c =
     let h = rw c.in-Full.is at c.in-Ok.ensures in
     let s = c.span-first.ensures in
-    no_pointer c.args.pool c.args.block c.args.low c.args.bound (wanted_posting c.args.wanted) _ _ h.viewed _
+    no_pointer c.args.pool c.args.block c.args.low c.args.bound c.args.wanted _ _ h.viewed _
     c.in-Full.l c.span-first.result s.is s.low s.high h.ends.1 (rw c.in_default.is at c.in-Ok-pointer.ensures)
 
 -- it leads below the pool
@@ -55,7 +54,7 @@ pub returns-then-target-pool : goal.returns-then-target-pool
 returns-then-target-pool g t c =
     let h = rw c.in-Full.is at c.in-Ok.ensures in
     let s = c.span-first.ensures in
-    leads_out c.args.pool c.args.block c.args.low c.args.bound (wanted_posting c.args.wanted) _ _ h.viewed _
+    leads_out c.args.pool c.args.block c.args.low c.args.bound c.args.wanted _ _ h.viewed _
     c.in-Full.l c.span-first.result s.is s.low s.high h.ends.1 c.in-Some.target
     (rw c.in-Some.is at c.in-Ok-pointer.ensures) (inl (omega arith))
 
@@ -64,7 +63,7 @@ pub returns-then-from : goal.returns-then-from
 returns-then-from g t c =
     let h = rw c.in-Full.is at c.in-Ok.ensures in
     let s = c.span-first.ensures in
-    leads_out c.args.pool c.args.block c.args.low c.args.bound (wanted_posting c.args.wanted) _ _ h.viewed _
+    leads_out c.args.pool c.args.block c.args.low c.args.bound c.args.wanted _ _ h.viewed _
     c.in-Full.l c.span-first.result s.is s.low s.high h.ends.1 c.in-Some.target
     (rw c.in-Some.is at c.in-Ok-pointer.ensures) (inr (omega (arith, c.cells.ensures.cells)))
 
@@ -89,7 +88,7 @@ pub returns : goal.returns
 returns g t c =
     let h = rw c.in-Full.is at c.in-Ok.ensures in
     let s = c.span-first.ensures in
-    onward c.args.pool c.args.block c.args.low c.args.bound (wanted_posting c.args.wanted) _ _ h.viewed _
+    onward c.args.pool c.args.block c.args.low c.args.bound c.args.wanted _ _ h.viewed _
     c.in-Full.l c.span-first.result s.is s.low s.high h.ends.1 c.in-Some.target
     (rw c.in-Some.is at c.in-Ok-pointer.ensures) _ c.leads_to.result (omega arith)
     (omega (arith, c.cells.ensures.cells)) (omega arith) (omega (arith, h.ends.0, c.requires.below)) c.leads_to.ensures

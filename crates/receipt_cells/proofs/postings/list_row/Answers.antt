@@ -1,7 +1,6 @@
 -- The trail of one posting.
 use Rattle.std.proofs.Common.{ℕ, ap, ◌∙◌}
 use Rattle.cell_types.specs.Layout.{list_at}
-use Rattle.kept_documents.proofs.AskingRows.{the_posting}
 use Rattle.receipt_cells.proofs.Rowing.{row_listed}
 use Rattle.receipt_cells.proofs.postings.list_row.Goals as goal
 
@@ -9,4 +8,4 @@ pub returns : goal.returns
 returns g c =
     row_listed c.args.geometry.now c.args.row.now _ _ _ _ _ _ _ c.list_trail.result c.pool_at.ensures.at
     (c.list_at.ensures.at ∙ ap (λ (l : ℕ). list_at c.args.geometry.now l) c.list.ensures)
-    (the_posting c.args.row.now.posting _ _ _ c.key.ensures c.last.ensures c.tag.ensures) c.list_trail.ensures
+    c.posting.ensures c.list_trail.ensures
