@@ -3,7 +3,8 @@ ghost use Rattle.std.specs.Prelude.{◌≡◌, ◌≤◌, ◌⊎◌, ℕ, length
 ghost use Rattle.serde_json.specs.Data.{Items};
 ghost use Rattle.serde_json.specs.View.{view, items_view};
 ghost use Rattle.cell_types.specs.declared.geometry.TheConstants.{FIRST_VERSION, NEWEST_VERSION};
-ghost use Rattle.cell_types.specs.declared.refusal.Refusal.TheVariants.{BadScript, NoMemory};
+ghost use Rattle.cell_types.specs.declared.refusal.Refusal.TheVariants.{BadScript};
+ghost use Rattle.cell_types.specs.declared.refusal.Refusal.TheVariants as refusals;
 ghost use Rattle.script_events.specs.Grammar.{SaysEvent};
 ghost use Rattle.script_events.specs.Json.{AreItems, Exactly, IsFirstOther};
 ghost use Rattle.script_events.specs.Scripts.{ReadScriptEnds, SaysFrame, SaysVersion};
@@ -104,14 +105,15 @@ fn events(
     requires from { FIRST_VERSION ≤ version }
     requires to { version ≤ NEWEST_VERSION }
     ensures found { IfOk result (λ found. AreItems (SaysEvent cells version) found (items_view array.now.items)) }
-    ensures other { IfErr result (λ refusal. (refusal ≡ NoMemory)
+    ensures other { IfErr result (λ refusal. (refusal ≡ refusals.NoMemory)
         ⊎ ((i : ℕ) × (refusal ≡ BadScript i) × (1 ≤ i)
         × IsFirstOther (SaysEvent cells version) i (items_view array.now.items))) }
 {
     let mut found = Vec::new(alloc);
     let mut passed = 0;
     for value in array {
-        let Some(next) = event(alloc, value, cells, version)? else {
+        let next = event(alloc, value, cells, version)?;
+        let Some(next) = next else {
             return Err(Refusal::BadScript(passed + 1));
         };
         memory::push(&mut found, next)?;

@@ -20,9 +20,9 @@ returns-in-Err-Tampered g c =
 -- it has another identifier
 pub returns-then-ne : goal.returns-then-ne
 returns-then-ne g c =
-    let h = c.in-Ok-take_part.ensures in
-    let other : id_of c.in-Ok-take_part.head ≡ c.args.id.now → ⊥ = search (rules, c.ne.ensures, c.if-ne.true) in
-    other_one c.args.volume c.args.part.slot c.args.id.now _ _ h.viewed (id_of c.in-Ok-take_part.head)
+    let h = c.in-Ok.ensures in
+    let other : id_of c.in-Ok.head ≡ c.args.id.now → ⊥ = search (rules, c.ne.ensures, c.if-ne.true) in
+    other_one c.args.volume c.args.part.slot c.args.id.now _ _ h.viewed (id_of c.in-Ok.head)
     h.ends.2.got.has.body h.ends.2.holds other
 
 -- a call of the sink failed: then memory lacked
@@ -36,15 +36,15 @@ pub returns-in-Err : goal.returns-in-Err
 returns-in-Err g c =
     let layout = c.args.volume.geometry in
     let mid = g.V.View.seen c.take_part.new.view in
-    let h = c.in-Ok-take_part.ensures in
+    let h = c.in-Ok.ensures in
     let has = h.ends.2.got.has in
     let none = ap (λ (m : GatheredBytes). m.held) c.in_ok-body.ensures in
     let same : c.bytes.result.now ≡ has.body = read_back c.in_ok-body.body.held has.body c.bytes.result.now
     c.take_part.new.sink.held h.ends.2.got.gets none c.bytes.ensures in
-    let own : id_of c.in-Ok-take_part.head ≡ c.args.id.now = search (rules, c.ne.ensures, c.if-ne.false) in
-    index_fails c.args.volume c.args.part.slot c.args.id.now _ _ h.viewed (id_of c.in-Ok-take_part.head)
+    let own : id_of c.in-Ok.head ≡ c.args.id.now = search (rules, c.ne.ensures, c.if-ne.false) in
+    index_fails c.args.volume c.args.part.slot c.args.id.now _ _ h.viewed (id_of c.in-Ok.head)
     c.bytes.result.now
-    (λ tells. subst (λ (b : List ℕ). HoldsDocument layout mid.image c.args.part.slot (id_of c.in-Ok-take_part.head) b)
+    (λ tells. subst (λ (b : List ℕ). HoldsDocument layout mid.image c.args.part.slot (id_of c.in-Ok.head) b)
     (sym same) (h.ends.2.holds tells))
     own _ c.in-Err.why c.in-Err.ensures
 
@@ -53,15 +53,15 @@ pub returns-then-not-led : goal.returns-then-not-led
 returns-then-not-led g c =
     let layout = c.args.volume.geometry in
     let mid = g.V.View.seen c.take_part.new.view in
-    let h = c.in-Ok-take_part.ensures in
+    let h = c.in-Ok.ensures in
     let has = h.ends.2.got.has in
     let none = ap (λ (m : GatheredBytes). m.held) c.in_ok-body.ensures in
     let same : c.bytes.result.now ≡ has.body = read_back c.in_ok-body.body.held has.body c.bytes.result.now
     c.take_part.new.sink.held h.ends.2.got.gets none c.bytes.ensures in
-    let own : id_of c.in-Ok-take_part.head ≡ c.args.id.now = search (rules, c.ne.ensures, c.if-ne.false) in
-    indexed_no c.args.volume c.args.part.slot c.args.id.now _ _ h.viewed (id_of c.in-Ok-take_part.head)
+    let own : id_of c.in-Ok.head ≡ c.args.id.now = search (rules, c.ne.ensures, c.if-ne.false) in
+    indexed_no c.args.volume c.args.part.slot c.args.id.now _ _ h.viewed (id_of c.in-Ok.head)
     c.bytes.result.now
-    (λ tells. subst (λ (b : List ℕ). HoldsDocument layout mid.image c.args.part.slot (id_of c.in-Ok-take_part.head) b)
+    (λ tells. subst (λ (b : List ℕ). HoldsDocument layout mid.image c.args.part.slot (id_of c.in-Ok.head) b)
     (sym same) (h.ends.2.holds tells))
     own _ (rw c.if-not-led.true at c.in-Ok-is_indexed.ensures)
 
@@ -70,15 +70,15 @@ pub returns : goal.returns
 returns g c =
     let layout = c.args.volume.geometry in
     let mid = g.V.View.seen c.take_part.new.view in
-    let h = c.in-Ok-take_part.ensures in
+    let h = c.in-Ok.ensures in
     let has = h.ends.2.got.has in
     let none = ap (λ (m : GatheredBytes). m.held) c.in_ok-body.ensures in
     let same : c.bytes.result.now ≡ has.body = read_back c.in_ok-body.body.held has.body c.bytes.result.now
     c.take_part.new.sink.held h.ends.2.got.gets none c.bytes.ensures in
-    let own : id_of c.in-Ok-take_part.head ≡ c.args.id.now = search (rules, c.ne.ensures, c.if-ne.false) in
-    indexed_yes c.args.volume c.args.part.slot c.args.id.now _ _ h.viewed (id_of c.in-Ok-take_part.head)
+    let own : id_of c.in-Ok.head ≡ c.args.id.now = search (rules, c.ne.ensures, c.if-ne.false) in
+    indexed_yes c.args.volume c.args.part.slot c.args.id.now _ _ h.viewed (id_of c.in-Ok.head)
     c.bytes.result.now
-    (λ tells. subst (λ (b : List ℕ). HoldsDocument layout mid.image c.args.part.slot (id_of c.in-Ok-take_part.head) b)
+    (λ tells. subst (λ (b : List ℕ). HoldsDocument layout mid.image c.args.part.slot (id_of c.in-Ok.head) b)
     (sym same) (h.ends.2.holds tells))
     own _ _ refl refl
     (has_part_on layout (g.V.View.seen c.args.view.now) mid c.args.part h.viewed c.requires.part)
