@@ -21,8 +21,6 @@
 //! Begin with `cells.rt`.
 #![tactic(auto)]
 
-use cell_types::memory;
-
 mod cells;
 mod devices;
 mod files;

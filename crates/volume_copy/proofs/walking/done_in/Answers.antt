@@ -2,6 +2,7 @@
 use Rattle.std.proofs.Common.{arith, rules, ◌≡◌}
 use Rattle.cell_types.proofs.Passed.{handed}
 use Rattle.cell_types.specs.Refusals.{refusal_of_fault}
+use Rattle.cell_types.specs.declared.refusal.Refusal.TheVariants as refusals
 use Rattle.volume_copy.proofs.Slots.{look_fails}
 use Rattle.volume_copy.proofs.Walked.{walk_ends, walk_fails, walk_one, walk_over}
 use Rattle.volume_copy.proofs.walking.done_in.Goals as goal
@@ -10,9 +11,15 @@ use Rattle.volume_copy.proofs.walking.done_in.Goals as goal
 pub returns-in_err-found-clause-ends : goal.returns-in_err-found-clause-ends
 returns-in_err-found-clause-ends g c =
     let fault = c.in_err-found.field-0.0 in
-    rw (handed c.from_residual-in_err-found.result (refusal_of_fault fault) c.from_residual-in_err-found.ensures.1)
+    rw (handed c.from_residual.result (refusal_of_fault fault) c.from_residual.ensures.1)
     (walk_fails c.loop-slot.invariant c.slot_part.ensures.viewed c.args.horizon (refusal_of_fault fault)
     (look_fails c.args.volume.now.geometry c.loop-slot.slot _ _ fault c.in_err-found.ensures.ends))
+
+-- there was no memory for its part
+pub returns-in_err-push-clause-ends : goal.returns-in_err-push-clause-ends
+returns-in_err-push-clause-ends g c =
+    rw (handed c.from_residual-in_err-push.result refusals.NoMemory c.from_residual-in_err-push.ensures.1)
+    (record { slot = c.loop-slot.slot; refuses = tt })
 
 -- it is not done
 pub loop-slot-preserved-in_default : goal.loop-slot-preserved-in_default
