@@ -12,7 +12,7 @@ returns-in-Ok c = looked c.a_plan_is_kept.ensures c.args.plan.now (memory_of c.a
     c.in-Ok.ensures
     (ap (λ (m : SinkMemory). Some m.held) c.reserve-room.ensures.only
     ∙ ap (λ (m : SinkMemory). Some m.held) c.new-sink.ensures)
-    _ (whole_body c.new-body.ensures.items c.in_ok-extend_from_slice.ensures.items c.bytes-in-Ok.ensures c.new.ensures)
+    _ (whole_body c.new-body.ensures.items c.in_ok-extend_from_slice-in-Ok.ensures.items c.bytes-in-Ok.ensures c.new.ensures)
 
 pub returns : goal.returns
 returns c = not_looked c.a_plan_is_kept.ensures c.args.plan.now (memory_of c.args.device.now) c.begin_with.new.device
