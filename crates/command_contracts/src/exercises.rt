@@ -4,14 +4,14 @@ ghost use Rattle.command_line.specs.declared.words.TheConstants.{MAX_DOCUMENTS};
 ghost use Rattle.volume_exercise.specs.Events.{exercise_events};
 ghost use Rattle.volume_exercise.specs.Tallies.{counted_text, first_refusal};
 
-use cell_types::Refusal;
+use cell_types::{NoMemory, Refusal};
 use script_events::Event;
 use script_replies::Reply;
-use std::alloc::{AllocError, Global};
+use std::alloc::Global;
 use volume_exercise::{exercise_events, first_refusal, text_of};
 
 /// `exercise_events`.
-pub fn exercise_events_again(alloc: Global, documents: u32) -> Result<Vec<Event>, AllocError>
+pub fn exercise_events_again(alloc: Global, documents: u32) -> Result<Vec<Event>, NoMemory>
     requires { documents ≤ MAX_DOCUMENTS }
     ensures { IfOk result (λ events. events.items ≡ exercise_events documents) }
 {
@@ -26,7 +26,7 @@ pub fn first_refusal_again(replies: &[Reply]) -> Option<Refusal>
 }
 
 /// `text_of`.
-pub fn text_of_again(alloc: Global, documents: u32, replies: &[Reply]) -> Result<String, AllocError>
+pub fn text_of_again(alloc: Global, documents: u32, replies: &[Reply]) -> Result<String, NoMemory>
     requires few { documents ≤ MAX_DOCUMENTS }
     requires all { length replies.now ≡ 2 * documents + 401 }
     ensures { IfOk result (λ text. string_bytes text ≡ counted_text documents replies.now) }
