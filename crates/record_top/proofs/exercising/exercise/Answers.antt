@@ -1,5 +1,7 @@
 -- The events are of the grammar; and each exit, by how far the exercise came.
 use Rattle.std.proofs.Common.{List, ap, length, refl, subst, sym, ◌∙◌, ℕ, arith}
+use Rattle.cell_types.proofs.Passed.{handed}
+use Rattle.cell_types.specs.declared.refusal.Refusal.TheVariants as refusals
 use Rattle.script_events.specs.Events.{AreEventsOn}
 use Rattle.script_events.specs.declared.event.Event.{Event}
 use Rattle.script_replies.specs.declared.reply.Reply.{Reply}
@@ -35,10 +37,12 @@ text_of-requires-clause-all g c =
     (c.deref.ensures.value ∙ c.in_ok-events.ensures) c.in_ok-replies.ensures)
 
 pub returns-in_err-events : goal.returns-in_err-events
-returns-in_err-events g c = unmade refl refl
+returns-in_err-events g c =
+    unmade (handed c.from_residual.result refusals.NoMemory c.from_residual.ensures.1) refl
 
 pub returns-in_err-replies : goal.returns-in_err-replies
-returns-in_err-replies g c = unmade refl refl
+returns-in_err-replies g c =
+    unmade (handed c.from_residual-in_err-replies.result refusals.NoMemory c.from_residual-in_err-replies.ensures.1) refl
 
 -- an event was refused
 pub returns-in-Some : goal.returns-in-Some
