@@ -1,17 +1,18 @@
 -- What places of a row are passed at once.
-use Rattle.std.proofs.Common.{◌≡◌, ◌<◌, ◌≤◌, ◌+◌, ◌-◌, ◌&&◌, eqb, nat_le, ℕ, Bool, true, not, List, length, map, refl, sym, ap, ◌∙◌, subst, arith, inl, inr}
+use Rattle.std.proofs.Common.{◌≡◌, ◌<◌, ◌≤◌, ◌+◌, ◌-◌, ◌&&◌, eqb, nat_le, ℕ, Bool, true, false, not, cond, List, length, map, refl, sym, ap, ◌∙◌, subst, arith, inl, inr}
 use Rattle.std.proofs.Math.ListN.{get_or}
 use Rattle.std.proofs.lemmas.Bool.{and_parts, cases_lt, eq-eqb, eqb-true}
 use Rattle.std.proofs.lemmas.Bool.Decides.{nat_tests}
-use Rattle.std.proofs.lemmas.List.{get_or-map, length-map}
+use Rattle.std.proofs.lemmas.List.{get_or-map, get_or_past, length-map}
 use Rattle.std.proofs.lemmas.List.Folds.{list_all_at}
 use Rattle.std.proofs.lemmas.List.FromFn.{get_or-range_with_len, length-range_with_len}
-use Rattle.std.proofs.lemmas.List.Sums.{prefix_len_passes}
-use Rattle.std.proofs.lemmas.Simd.{get_or-chunk, get_or-zip2, length-chunk, length-zip2}
+use Rattle.std.proofs.lemmas.Nat.Bits.{bit_at-zero}
+use Rattle.std.proofs.lemmas.Simd.{bit_mask_l, get_or-chunk, get_or-zip2, length-chunk, length-zip2}
 use Rattle.std.specs.Int.Bits.{bit_or, bit_xor, xor_self}
-use Rattle.std.specs.List.{list_all, prefix_len, range_with_len}
+use Rattle.std.specs.Int.{bit_at}
+use Rattle.std.specs.List.{list_all, range_with_len}
 use Rattle.std.specs.Prelude.{slice_index}
-use Rattle.std.specs.Simd.Lanes.{chunk, zip2}
+use Rattle.std.specs.Simd.Lanes.{chunk, mask_l, zip2}
 use Rattle.volume_meaning.specs.Words.{lowered}
 use Rattle.word_reader.specs.RowWords.{IsFrontOf, StandsAt, StandsAtNone}
 use Rattle.word_reader.specs.declared.row_words.TermFront.{TermFront}
@@ -89,33 +90,65 @@ module _ (row : List ℕ) (at behind first second : ℕ) (ones others : List ℕ
       ∙ ap (λ (l : List ℕ). get_or l k 0) others_are ∙ lane_of second (at + behind) k room less
       ∙ no_difference (slice_index row (at + behind + k)) second other
 
-  -- so they stand at none of the places before the first where none is
-  pub none_stand : (n : ℕ) → n ≡ prefix_len (λ x. not (eqb x 0)) (zip2 bit_or ones others) → (k : ℕ) → k < n → k < 16
-      → lowered (slice_index row (at + k)) ≡ first → lowered (slice_index row (at + behind + k)) ≡ second → ⊥
-  none_stand n counted k less below one other =
-      true_false (sym (prefix_len_passes (λ x. not (eqb x 0)) (zip2 bit_or ones others) k 0 (omega (arith, less, counted)))
-      ∙ ap not (eq-eqb (get_or (zip2 bit_or ones others) k 0) 0 (both_stand k below one other)))
+  -- so the bit of that place is set
+  pub both_found : (k : ℕ) → k < 16 → lowered (slice_index row (at + k)) ≡ first
+      → lowered (slice_index row (at + behind + k)) ≡ second
+      → bit_at (mask_l (map (λ x. eqb x 0) (zip2 bit_or ones others))) k ≡ 1
+  both_found k less one other =
+      bit_mask_l (map (λ x. eqb x 0) (zip2 bit_or ones others)) k
+      ∙ ap (λ (b : Bool). cond b 1 0)
+      (get_or-map (λ x. eqb x 0) (zip2 bit_or ones others) k 0 false (omega (arith, less, long))
+      ∙ eq-eqb (get_or (zip2 bit_or ones others) k 0) 0 (both_stand k less one other))
 
--- a term does not stand where its first byte and another do not
-pub not_at : (row term : List ℕ) (at behind n : ℕ) → behind < length term
-    → ((k : ℕ) → k < n → lowered (slice_index row (at + k)) ≡ slice_index term 0
-    → lowered (slice_index row (at + behind + k)) ≡ slice_index term behind → ⊥)
-    → (k : ℕ) → k < n → StandsAt row (at + k) term → ⊥
-not_at row term at behind n inside none k less is =
-    let one : at + k + 0 ≡ at + k = omega arith in
-    let other : at + k + behind ≡ at + behind + k = omega arith in
-    none k less
-    (subst (λ (p : ℕ). lowered (slice_index row p) ≡ slice_index term 0) one (is.spells 0 (omega (arith, is.some))).same)
-    (subst (λ (p : ℕ). lowered (slice_index row p) ≡ slice_index term behind) other (is.spells behind inside).same)
+  -- and no bit of a place behind them
+  pub none_behind : (k : ℕ) → 16 ≤ k → bit_at (mask_l (map (λ x. eqb x 0) (zip2 bit_or ones others))) k ≡ 0
+  none_behind k behind_all =
+      bit_mask_l (map (λ x. eqb x 0) (zip2 bit_or ones others)) k
+      ∙ ap (λ (b : Bool). cond b 1 0)
+      (get_or_past (map (λ x. eqb x 0) (zip2 bit_or ones others)) k false
+      (omega (arith, behind_all, length-map (zip2 bit_or ones others) (λ x. eqb x 0), long)))
 
--- so one with this front does not
+-- where no bit is set, the two bytes stand at none of the places
+pub none_set : (found : ℕ) → found ≡ 0 → (k : ℕ) → bit_at found k ≡ 1 → ⊥
+none_set found none k set =
+    let clear : bit_at found k ≡ 0 = ap (λ (n : ℕ). bit_at n k) none ∙ bit_at-zero k in
+    omega (arith, clear, set)
+
+-- what is not false is true
+pub shown : (b : Bool) → not b ≡ false → b ≡ true
+shown true e = refl
+shown false e = absurd (true_false e)
+
+-- they stand at none of so many places, and at none of sixteen behind those
+pub none_past : (row : List ℕ) (at behind first second count : ℕ)
+    → ((k : ℕ) → k < count → lowered (slice_index row (at + k)) ≡ first → lowered (slice_index row (at + behind + k)) ≡ second → ⊥)
+    → ((k : ℕ) → k < 16 → lowered (slice_index row (at + count + k)) ≡ first
+    → lowered (slice_index row (at + count + behind + k)) ≡ second → ⊥)
+    → (k : ℕ) → k < count + 16 → lowered (slice_index row (at + k)) ≡ first
+    → lowered (slice_index row (at + behind + k)) ≡ second → ⊥
+none_past row at behind first second count before after k less one other = elim (cases_lt k count) [
+  | inl earlier ↦ before k earlier one other
+  | inr later ↦
+      let here : at + k ≡ at + count + (k - count) = omega (arith, later) in
+      let there : at + behind + k ≡ at + count + behind + (k - count) = omega (arith, later) in
+      after (k - count) (omega (arith, less, later))
+      (subst (λ (p : ℕ). lowered (slice_index row p) ≡ first) here one)
+      (subst (λ (p : ℕ). lowered (slice_index row p) ≡ second) there other)
+]
+
+-- a term with this front does not stand where the front's bytes do not
 pub not_front : (row term : List ℕ) (at n : ℕ) (front : TermFront) → IsFrontOf term front
-    → ((k : ℕ) → k < n → lowered (slice_index row (at + k)) ≡ front.first
-    → lowered (slice_index row (at + front.behind + k)) ≡ front.second → ⊥)
+    → ((k : ℕ) → k < n → lowered (slice_index row (at + front.offset + k)) ≡ front.first
+    → lowered (slice_index row (at + front.offset + front.behind + k)) ≡ front.second → ⊥)
     → (k : ℕ) → k < n → StandsAt row (at + k) term → ⊥
-not_front row term at n front is none =
-    not_at row term at front.behind n is.inside
-    (λ k less one other. none k less (one ∙ is.first) (other ∙ is.second))
+not_front row term at n front is none k less stands =
+    let one : at + k + front.offset ≡ at + front.offset + k = omega arith in
+    let other : at + k + (front.offset + front.behind) ≡ at + front.offset + front.behind + k = omega arith in
+    none k less
+    (subst (λ (p : ℕ). lowered (slice_index row p) ≡ slice_index term front.offset) one
+    (stands.spells front.offset (omega (arith, is.inside))).same ∙ is.first)
+    (subst (λ (p : ℕ). lowered (slice_index row p) ≡ slice_index term (front.offset + front.behind)) other
+    (stands.spells (front.offset + front.behind) is.inside).same ∙ is.second)
 
 -- a term that stands at no place up to one, and at none of so many from it on
 pub none_to : (row term : List ℕ) (from at count : ℕ) → StandsAtNone row from at term

@@ -44,12 +44,12 @@ pub record ReadsAs (byte small : ℕ) : Type 0 where
   pub of_word : is_word_byte byte ≡ true
   pub same : lowered byte ≡ small
 
--- these are two bytes of the term, the first one and the next, or the only one twice
+-- these are two neighbouring bytes of the term, or its last one twice
 pub record IsFrontOf (term : List ℕ) (front : TermFront) : Type 0 where
   pub near : front.behind ≤ 1
-  pub inside : front.behind < length term
-  pub first : slice_index term 0 ≡ front.first
-  pub second : slice_index term front.behind ≡ front.second
+  pub inside : front.offset + front.behind < length term
+  pub first : slice_index term front.offset ≡ front.first
+  pub second : slice_index term (front.offset + front.behind) ≡ front.second
 
 -- the bytes of a row from this place on spell these
 abbrev pub SpellsAt : List ℕ → ℕ → List ℕ → Type 0

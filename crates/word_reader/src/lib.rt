@@ -13,7 +13,7 @@
 //!
 //! A **matcher** takes the bytes of a body in one pass, row by row. By bytes it keeps none of them. A word that begins
 //! and ends within one row is compared with each term where it stands (`row_words.rt`); most places of a row are passed
-//! sixteen at once, by the first two bytes of the term (`lanes.rt`). A word that crosses from one row into the next is
+//! sixteen at once, by two bytes of the term, or sixty-four in a long row (`lanes.rt`). A word that crosses from one row into the next is
 //! followed byte by byte: for each term it is known whether a word that has ended is the term, and how long a front of it
 //! the present run is. The terms `hello` and `world`, after each byte of a body that comes so:
 //!

@@ -1,50 +1,39 @@
--- The lanes before the first one in which no bit is set.
-use Rattle.std.proofs.Common.{◌∙◌, eqb, not, sym, ap, arith, bit_or, w8}
-use Rattle.std.proofs.lemmas.List.Sums.{prefix_len-le-length}
-use Rattle.std.proofs.lemmas.Simd.{bitmask_splat, leading_from_mask_l, trailing_mask_l}
-use Rattle.std.specs.Simd.Lanes.{zip2}
-use lib.Count.{count_trailing_zeros}
-use Rattle.word_reader.proofs.Places.{long, none_stand}
+-- The places before the lowest bit that is set.
+use Rattle.std.proofs.Common.{◌≡◌, w64, arith, inl, inr}
+use Rattle.std.specs.Int.{bit_at}
+use Rattle.std.specs.Int.Count.{count_trailing_zeros}
+use Rattle.std.proofs.lemmas.Bool.{cases_lt}
+use Rattle.std.proofs.lemmas.Nat.Bits.{bit_at-trailing_zeros}
+use Rattle.word_reader.proofs.Places.{none_set}
 use Rattle.word_reader.proofs.lanes.places_before.Goals as goal
 
--- a bit is set in each
 pub returns-then-found-eq0-clause-none : goal.returns-then-found-eq0-clause-none
-returns-then-found-eq0-clause-none c = λ k less.
-    let row = c.args.row.now in
-    let ones = c.differences-ones.result in
-    let others = c.differences-others.result in
-    let lanes = zip2 bit_or ones others in
-    let wide = long row c.args.at c.args.behind c.args.first c.args.second ones others c.requires
-    c.differences-ones.ensures c.differences-others.ensures in
-    let found = bitmask_splat w8 eqb lanes 16 0 wide (omega arith) in
-    none_stand row c.args.at c.args.behind c.args.first c.args.second ones others c.requires
-    c.differences-ones.ensures c.differences-others.ensures 16
-    (sym (leading_from_mask_l (λ x. eqb x 0) lanes (sym found ∙ c.if-found-eq0.true) ∙ wide)) k less less
+returns-then-found-eq0-clause-none c = λ k less one other.
+    none_set c.places_found-found.result c.if-found-eq0.true k (c.places_found-found.ensures.found k less one other)
 
--- no bit is set in one
 pub returns-clause-most : goal.returns-clause-most
 returns-clause-most c =
-    let ones = c.differences-ones.result in
-    let others = c.differences-others.result in
-    let lanes = zip2 bit_or ones others in
-    let wide = long c.args.row.now c.args.at c.args.behind c.args.first c.args.second ones others c.requires
-    c.differences-ones.ensures c.differences-others.ensures in
-    let found = bitmask_splat w8 eqb lanes 16 0 wide (omega arith) in
-    let counted = ap (count_trailing_zeros 64) found
-    ∙ trailing_mask_l (λ x. eqb x 0) 64 lanes (omega arith) (omega arith) in
-    omega (arith, counted, prefix_len-le-length (λ x. not (eqb x 0)) lanes, wide)
+    let found = c.places_found-found.result in
+    let lowest = bit_at-trailing_zeros w64 found (omega (arith, c.if-found-eq0.false)) c.places_found-found.type_inv in
+    elim (cases_lt 16 (count_trailing_zeros 64 found)) [
+      | inl past ↦
+          let clear : bit_at found (count_trailing_zeros 64 found) ≡ 0 =
+          c.places_found-found.ensures.few (count_trailing_zeros 64 found) (omega (arith, past)) in
+          absurd (omega (arith, clear, lowest.1))
+      | inr most ↦ most
+    ]
 
 pub returns-clause-none : goal.returns-clause-none
-returns-clause-none c = λ k less.
-    let row = c.args.row.now in
-    let ones = c.differences-ones.result in
-    let others = c.differences-others.result in
-    let lanes = zip2 bit_or ones others in
-    let wide = long row c.args.at c.args.behind c.args.first c.args.second ones others c.requires
-    c.differences-ones.ensures c.differences-others.ensures in
-    let found = bitmask_splat w8 eqb lanes 16 0 wide (omega arith) in
-    let counted = ap (count_trailing_zeros 64) found
-    ∙ trailing_mask_l (λ x. eqb x 0) 64 lanes (omega arith) (omega arith) in
-    none_stand row c.args.at c.args.behind c.args.first c.args.second ones others c.requires
-    c.differences-ones.ensures c.differences-others.ensures _ counted k less
-    (omega (arith, less, counted, prefix_len-le-length (λ x. not (eqb x 0)) lanes, wide))
+returns-clause-none c = λ k less one other.
+    let found = c.places_found-found.result in
+    let lowest = bit_at-trailing_zeros w64 found (omega (arith, c.if-found-eq0.false)) c.places_found-found.type_inv in
+    let clear : bit_at found k ≡ 0 = lowest.2 k less in
+    elim (cases_lt k 16) [
+      | inl near ↦
+          let set : bit_at found k ≡ 1 = c.places_found-found.ensures.found k near one other in
+          omega (arith, clear, set)
+      | inr far ↦
+          let none : bit_at found (count_trailing_zeros 64 found) ≡ 0 =
+          c.places_found-found.ensures.few (count_trailing_zeros 64 found) (omega (arith, far, less)) in
+          absurd (omega (arith, none, lowest.1))
+    ]

@@ -3,9 +3,6 @@ use Rattle.std.proofs.Common.{arith}
 use Rattle.word_reader.proofs.Places.{none_to, not_front}
 use Rattle.word_reader.proofs.row_words.next_place.Goals as goal
 
-pub loop-at-init : goal.loop-at-init
-loop-at-init c = (omega arith, c.requires.low, λ term is place low less stands. absurd (omega (arith, low, less)))
-
 pub loop-at-preserved : goal.loop-at-preserved
 loop-at-preserved c = (
   omega (arith, c.loop-at.invariant.0),
