@@ -78,20 +78,20 @@ fn is_framed(slot: u32, bytes: &[u8]) -> bool
         return false;
     }
     // Behind the number of a cell stands the kind of the next one.
-    let next = u64::from(slot + 1);
-    if !holds_word(bytes, 9, 1_024 * next + COMMIT) {
+    let reserve_at = 4 + 4 * u64::from(slot);
+    if !holds_word(bytes, 9, 256 * reserve_at + COMMIT) {
         return false;
     }
-    if !holds_word(bytes, 25, 1_024 * next + 256 + DONE) {
+    if !holds_word(bytes, 25, 256 * (reserve_at + 1) + DONE) {
         return false;
     }
     if !holds_word(bytes, 33, 4_294_967_296 * u64::from(slot)) {
         return false;
     }
-    if !holds_word(bytes, 41, 1_024 * next + 512 + STAMP) {
+    if !holds_word(bytes, 41, 256 * (reserve_at + 2) + STAMP) {
         return false;
     }
-    holds_word(bytes, 56, 4 * next + 3)
+    holds_word(bytes, 56, reserve_at + 3)
 }
 
 /// How many cells of the pool the reserve cell names, if they are some.
@@ -129,11 +129,8 @@ fn names_document(cells: u32, bytes: &[u8]) -> bool
     if journal == 0 {
         return false;
     }
-    if cells < journal {
-        return false;
-    }
     // Fifteen bytes of the document go into a cell.
-    u64::from(size) <= 15 * u64::from(cells - journal)
+    u64::from((size + 14) / 15) + u64::from(journal) <= u64::from(cells)
 }
 
 /// The seconds that the spare cell names.
