@@ -1,6 +1,8 @@
 pub mod Breaking
+pub mod BytesSeen
 pub mod CellsMake
 pub mod CellsSeen
+pub mod DoneBytes
 pub mod DoneRow
 pub mod HorizonSoFar
 pub mod LooksAsOne

@@ -6,4 +6,5 @@ pub mod Partition
 pub mod Reservations
 pub mod Stamps
 pub mod States
+pub mod SlotBytes
 pub mod SlotCells

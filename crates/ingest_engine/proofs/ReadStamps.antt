@@ -251,29 +251,6 @@ module _ (g : Layout) (n : ℕ) (row : List (Option (List ℕ))) (greatest : Opt
       (λ tells. record { start = start; length = length; bytes = bytes; journal = journal; done = ends.2 tells })
       (row_stamp_was g n row reads four stamp of) (row_stamp g n row reads four stamp of)
 
--- the cells of a slot and those behind it, of a row that begins with an earlier one's
-pub slots_from : (first place : ℕ) (row : List (Option (List ℕ))) {old new : ViewState} → 4 * place ≤ length row
-    → ReadsSlots first row old new
-    → ReadsSlots (first + place) (take (length row - 4 * place) (drop (4 * place) row)) old new
-slots_from first place row {old} {new} inside reads =
-    subst (λ (cells : List (Option (List ℕ))). ReadsSlots (first + place) cells old new)
-    (sym (take_all (length row - 4 * place) behind (omega (arith, length-drop (4 * place) row))))
-    (record {
-      viewed = reads.viewed;
-      view = reads.view;
-      faults = reads.faults;
-      found = λ tells at held less is.
-          let within : 4 * place + at < length row = omega (arith, less, length-drop (4 * place) row, inside) in
-          subst (λ (cell : ℕ). IsFoundBetween old.image new.image cell held) (omega arith)
-          (reads.found tells (4 * place + at) held within
-          (slice_get-get_or row (4 * place + at) held within
-          ∙ ap (λ (v : Option (List ℕ)). Some v) (sym (get_or-drop (4 * place) row at held)
-          ∙ get_or_from_slice_get behind at held held is)));
-    })
-  where
-    behind : List (Option (List ℕ))
-    behind = drop (4 * place) row
-
 module _ (g : Layout) (n : ℕ) where
   -- none was read yet
   pub none_read : (s : ViewState) (from : ℕ) → n ≤ from → StampsSoFar g from n None s s

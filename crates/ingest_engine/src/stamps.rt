@@ -1,6 +1,8 @@
 //! Whether the stamp of a document is past those of the volume.
 ghost use Rattle.std.specs.Prelude.{◌≡◌, ◌<◌, ◌≤◌, ◌+◌, ◌*◌, ◌⊎◌, length};
 ghost use Rattle.worm_device.specs.Views.{ViewState};
+ghost use Rattle.cell_types.specs.Layout as layout;
+ghost use Rattle.commit_record.specs.SlotBytes.{ReadsSlotBytes};
 ghost use Rattle.commit_record.specs.SlotCells.{ReadsSlots};
 ghost use Rattle.recovery_engine.specs.Settling.{LiesInBounds};
 ghost use Rattle.ingest_engine.specs.Indexing.{LooksPast, ReadsOnDevice};
@@ -8,15 +10,17 @@ ghost use Rattle.ingest_engine.specs.Stamps.{AddsStamps, IsStampUpTo, PastLast, 
 ghost use Rattle.ingest_engine.specs.declared.stamps.TheConstants.{ROW_SLOTS};
 
 use cell_types::{Cell, Fault, Geometry, Refusal, Volume};
-use commit_record::{SlotState, slot_of_row, stamp_of_row};
+use commit_record::{
+    SLOT_BYTES, SlotState, cells_of_slot, done_stamp, slot_of_row, stamp_of_row,
+};
 use recovery_engine::Ready;
 use worm_device::{Device, Direct, View};
 
 /// How many slots are read at once, at most.
-const ROW_SLOTS: u32 = 64;
+const ROW_SLOTS: u32 = 256;
 
-/// How many cells they have.
-const ROW_CELLS: usize = 4 * ROW_SLOTS as usize;
+/// How many bytes their cells have.
+const ROW_BYTES: usize = 16_384;
 
 /// That the stamp, if one is given, is past that of each done slot below the horizon. The slots are read from the
 /// greatest down, where a stamp is given alone.
@@ -59,24 +63,24 @@ fn greatest_stamp<V: View>(view: &mut V, volume: &Volume, below: u32) -> Result<
     let mut greatest = None;
     let mut left = below;
     // All rows are read into one place, which is made blank once alone.
-    let mut cells = [None; ROW_CELLS];
+    let mut room = [0; ROW_BYTES];
     while left > 0 {
         let count = left.min(ROW_SLOTS);
         let first = left - count;
-        greatest = with_slots(view, &volume.geometry, first, count, &mut cells, greatest)?;
+        greatest = with_slots(view, &volume.geometry, first, count, &mut room, greatest)?;
         left -= count;
     }
     Ok(greatest)
 }
 
-/// The latest of a stamp and those of the done slots among so many, from the first on. Their cells are read as one row,
-/// into the room that is there for it.
+/// The latest of a stamp and those of the done slots among so many, from the first on. The bytes of their cells are read
+/// by one call, into the room that is there for them.
 fn with_slots<V: View>(
     view: &mut V,
     geometry: &Geometry,
     first: u32,
     count: u32,
-    room: &mut [Option<Cell>; ROW_CELLS],
+    room: &mut [u8; ROW_BYTES],
     greatest: Option<u32>,
 ) -> Result<Option<u32>, Fault>
     requires some { 1 ≤ count }
@@ -89,8 +93,8 @@ fn with_slots<V: View>(
     // cells is one of the device, too.
     let _slots = geometry.slots();
     let _last = geometry.spare_at(first + count - 1);
-    let row = &mut room[..4 * count as usize];
-    view.read_row(geometry.reserve_at(first), row)?;
+    let row = &mut room[..SLOT_BYTES * count as usize];
+    view.read_bytes(geometry.reserve_at(first), row)?;
     latest_in_row(geometry, first, count, row, greatest)
 }
 
@@ -99,27 +103,53 @@ fn latest_in_row(
     geometry: &Geometry,
     first: u32,
     count: u32,
-    row: &[Option<Cell>],
+    row: &[u8],
     greatest: Option<u32>,
 ) -> Result<Option<u32>, Fault>
     requires few { count ≤ ROW_SLOTS }
     requires slots { first + count ≤ geometry.now.slots }
-    requires cells { length row.now ≡ 4 * count }
-    ensures { (old new : ViewState) → ReadsSlots first row.now old new
+    requires bytes { length row.now ≡ 64 * count }
+    ensures { (old new : ViewState) → ReadsSlotBytes first row.now old new
         → AddsStamps geometry.now first (first + count) greatest old new result }
 {
     // Known of a layout once it is asked for.
     let _slots = geometry.slots();
+    let pool_at = geometry.pool_at();
     let mut last = greatest;
-    for back in 0..count {
-        let place = count - 1 - back;
-        last = with_slot(geometry, first + place, &row[4 * place as usize..], last)?;
+    let mut left = count as usize;
+    while left > 0 {
+        left -= 1;
+        let bytes = &row[SLOT_BYTES * left..];
+        last = with_slot(geometry, pool_at, first + left as u32, bytes, last)?;
     }
     Ok(last)
 }
 
-/// The later one of a stamp and that of a slot, if the slot is done. Its cells are the first of a row that was read.
+/// The later one of a stamp and that of a slot, if the slot is done. The bytes of its cells are the first of a row that
+/// was read. Most slots are done, so that is asked first.
+#[inline]
 fn with_slot(
+    geometry: &Geometry,
+    pool_at: u32,
+    slot: u32,
+    bytes: &[u8],
+    greatest: Option<u32>,
+) -> Result<Option<u32>, Fault>
+    requires slot { slot < geometry.now.slots }
+    requires pool { pool_at ≡ layout.pool_at geometry.now }
+    requires four { 64 ≤ length bytes.now }
+    ensures { (old new : ViewState) → ReadsSlotBytes slot bytes.now old new
+        → AddsStamps geometry.now slot (slot + 1) greatest old new result }
+{
+    let Some(stamp) = done_stamp(geometry, pool_at, slot, bytes) else {
+        return with_cells(geometry, slot, &cells_of_slot(bytes), greatest);
+    };
+    Ok(later_of(greatest, Some(stamp)))
+}
+
+/// The same by what the slot's cells hold, the first of a row.
+#[cold]
+fn with_cells(
     geometry: &Geometry,
     slot: u32,
     row: &[Option<Cell>],

@@ -20,7 +20,10 @@ pub use documents::{body_into_again, check_again, next_byte_again, next_row_agai
 pub use indexes::{find_geq_again, first_at_least_again, of_block_again};
 pub use joins::{is_live_again, next_common_again, next_of_terms_again};
 pub use keeping::{has_trail_again, is_kept_again};
-pub use log::{end_of_log_again, open_again, slot_of_row_again, slot_state_again};
+pub use log::{
+    cells_of_slot_again, done_stamp_again, end_of_log_again, open_again, slot_of_row_again,
+    slot_state_again,
+};
 pub use receipts::read_receipt_again;
 pub use tags::{document_postings_again, postings_again};
 pub use tree::{lookup_again, next_candidate_again, walk_again};

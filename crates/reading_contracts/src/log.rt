@@ -1,14 +1,19 @@
-//! Cell 0, the state of a slot, also by a row that was read, and the end of the log.
-ghost use Rattle.std.specs.Prelude.{◌<◌, ◌≤◌, ◌+◌, IfOk, length};
+//! Cell 0, the state of a slot, also by a row that was read, of cells or of bytes, and the end of the log.
+ghost use Rattle.std.specs.Prelude.{◌≡◌, ◌<◌, ◌≤◌, ◌+◌, IfOk, IfSome, length};
+ghost use Rattle.cell_types.specs.Layout as layout;
 ghost use Rattle.worm_device.specs.Views.{Viewed};
 ghost use Rattle.commit_record.specs.LogEnds.{LogEndEnds};
 ghost use Rattle.commit_record.specs.Opening.{OpenEnds};
 ghost use Rattle.commit_record.specs.Partition.{HasRoom};
+ghost use Rattle.commit_record.specs.SlotBytes.{IsDoneByBytes, IsSlotRowOf};
 ghost use Rattle.commit_record.specs.SlotCells.{SlotOfRow};
 ghost use Rattle.commit_record.specs.States.{StateEnds, stamp_cells};
 
 use cell_types::{Cell, Evidence, Fault, Geometry, Volume};
-use commit_record::{LogEnd, OpenRefusal, SlotState, end_of_log, open, slot_of_row, slot_state};
+use commit_record::{
+    LogEnd, OpenRefusal, SlotState, cells_of_slot, done_stamp, end_of_log, open, slot_of_row,
+    slot_state,
+};
 use worm_device::{Failed, View};
 
 /// `open`.
@@ -49,6 +54,29 @@ pub fn slot_of_row_again(
     ensures { SlotOfRow geometry.now slot row.now result }
 {
     slot_of_row(geometry, slot, row)
+}
+
+/// `done_stamp`.
+pub fn done_stamp_again(
+    geometry: &Geometry,
+    pool_at: u32,
+    slot: u32,
+    bytes: &[u8],
+) -> Option<u32>
+    requires slot { slot < geometry.now.slots }
+    requires pool { pool_at ≡ layout.pool_at geometry.now }
+    requires four { 64 ≤ length bytes.now }
+    ensures { IfSome result (λ seconds. IsDoneByBytes geometry.now slot bytes.now seconds) }
+{
+    done_stamp(geometry, pool_at, slot, bytes)
+}
+
+/// `cells_of_slot`.
+pub fn cells_of_slot_again(bytes: &[u8]) -> [Option<Cell>; 4]
+    requires { 64 ≤ length bytes.now }
+    ensures { IsSlotRowOf bytes.now result }
+{
+    cells_of_slot(bytes)
 }
 
 /// `end_of_log`.

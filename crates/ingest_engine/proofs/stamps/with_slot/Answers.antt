@@ -1,26 +1,25 @@
--- A slot that is not done has no stamp, and the stamp of one that is done stands in its spare cell.
-use Rattle.cell_types.proofs.Passed.{handed}
-use Rattle.cell_types.specs.declared.refusal.Fault.TheVariants.{Tampered}
-use Rattle.ingest_engine.proofs.ReadStamps.{slot_done, slot_tampered, slot_undone}
+-- The bytes say that the slot is done, or its cells say what it is.
+use Rattle.std.proofs.Common.{Some, arith}
+use Rattle.commit_record.proofs.BytesSeen.{done_cells, done_has_stamp, done_row_of, done_state, row_of_bytes}
+use Rattle.ingest_engine.proofs.ReadStamps.{slot_done}
 use Rattle.ingest_engine.proofs.stamps.with_slot.Goals as goal
 
--- its cells are no state
-pub returns-in_err-slot_of_row : goal.returns-in_err-slot_of_row
-returns-in_err-slot_of_row c = λ old new reads.
-    rw (handed c.from_residual.result (Tampered c.in_err-slot_of_row.field-0.0) c.from_residual.ensures.1)
-    (slot_tampered c.args.geometry.now c.args.slot c.args.row.now c.args.greatest c.requires.slot
-    c.requires.four old new
-    reads c.in_err-slot_of_row.field-0.0 (rw c.in_err-slot_of_row.was at c.slot_of_row.ensures))
-
+-- its cells are asked
 pub returns-in_default : goal.returns-in_default
 returns-in_default c = λ old new reads.
-    slot_undone c.args.geometry.now c.args.slot c.args.row.now c.args.greatest c.requires.slot c.requires.four old new
-    reads c.in_ok-slot_of_row.field-0 c.in_ok-slot_of_row.ensures c.in_default.not-Done
+    c.with_cells.ensures old new
+    (row_of_bytes c.args.slot c.args.bytes.now c.cells_of_slot.result c.cells_of_slot.ensures.cells reads)
 
+-- the slot is done
 pub returns : goal.returns
 returns c = λ old new reads.
-    slot_done c.args.geometry.now c.args.slot c.args.row.now c.args.greatest c.requires.slot
-    c.requires.four old new reads
-    c.in-Done.start c.in-Done.length c.in-Done.bytes c.in-Done.journal (rw c.in-Done.is at c.in_ok-slot_of_row.ensures)
-    c.stamp_of_row-stamp.result c.later_of.result c.stamp_of_row-stamp.ensures c.later_of.ensures.first
-    c.later_of.ensures.second c.later_of.ensures.either
+    let g = c.args.geometry.now in
+    let n = c.args.slot in
+    let bytes = c.args.bytes.now in
+    let stamp = c.in-Some.stamp in
+    let done = c.in-Some.ensures in
+    slot_done g n (done_cells g n bytes stamp done c.requires.four) c.args.greatest c.requires.slot (omega arith) old new
+    (row_of_bytes n bytes _ (done_row_of g n bytes stamp done c.requires.four) reads) done.start done.length done.size
+    done.journal (done_state g n bytes stamp done c.requires.four c.requires.slot) (Some stamp) c.later_of.result
+    (done_has_stamp g n bytes stamp done c.requires.four) c.later_of.ensures.first c.later_of.ensures.second
+    c.later_of.ensures.either
