@@ -38,7 +38,8 @@
 //! there may be free slots before it and taken ones behind it.
 //!
 //! Reads at most: `open` and `stamp_of` 1, `slot_state` 3 in one row, or 4 if documents are stamped, `horizon` and
-//! `end_of_log` 26. `parts` reads none, nor do `slot_of_row` and `stamp_of_row`, which are handed a slot's cells.
+//! `end_of_log` 26. `parts` reads none, nor do `slot_of_row` and `stamp_of_row`, which are handed a slot's cells, and
+//! `done_stamp` and `cells_of_slot`, which are handed their bytes: who goes over many slots asks `done_stamp` first.
 //! `end_of_log` also hands over the last reserve cell. `slot_state_of` goes on from such a cell: it saves one read, and
 //! never answers Unused. Nothing takes memory.
 //!

@@ -103,10 +103,10 @@ fn reserved_length(geometry: &Geometry, pool_at: u32, bytes: &[u8]) -> Option<u3
 {
     let start = number_at(bytes, 1);
     let count = number_at(bytes, 5);
-    if start < pool_at {
+    if u64::from(geometry.cells()) < u64::from(start) + u64::from(count) {
         return None;
     }
-    if u64::from(geometry.cells()) < u64::from(start) + u64::from(count) {
+    if start < pool_at {
         return None;
     }
     Some(count)
@@ -119,13 +119,13 @@ fn names_document(cells: u32, bytes: &[u8]) -> bool
     ensures { IsTrue result → NamesDocument bytes.now cells }
 {
     let size = number_at(bytes, 17);
-    let journal = number_at(bytes, 21);
     if size < MIN_STORED_BYTES {
         return false;
     }
     if MAX_STORED_BYTES < size {
         return false;
     }
+    let journal = number_at(bytes, 21);
     if journal == 0 {
         return false;
     }
