@@ -1,4 +1,7 @@
+mod Abandoned
 pub mod Along
+pub mod CommitsFirst
+pub mod Committing
 mod Complete
 mod Evident
 mod Exact
@@ -11,5 +14,6 @@ pub mod Reading
 mod Returned
 mod Rows
 mod Standing
+pub mod StoredIngests
 pub mod Undisturbed
 mod Whole

@@ -1,5 +1,7 @@
 pub mod Completeness
+pub mod ForeignOutcome
 pub mod Headline
+pub mod InTime
 pub mod Plays
 pub mod Refusals
 pub mod Sinks

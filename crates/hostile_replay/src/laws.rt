@@ -20,7 +20,9 @@
 //! `specs/Worlds.antt` say what a world is, and `specs/Undisturbed.antt` what is known of a world whose events let
 //! nobody else write, or that nothing befalls.
 ghost use Rattle.hostile_replay.specs.Completeness.{CommandsComplete};
+ghost use Rattle.hostile_replay.specs.ForeignOutcome.{AbandonedIsNotAcknowledged};
 ghost use Rattle.hostile_replay.specs.Headline.{AcknowledgedAreReturned, Headline, IngestsAreHeld, ReturnedStand, TamperingIsEvident, ToldIsExact};
+ghost use Rattle.hostile_replay.specs.InTime.{CommitsComeFirst};
 ghost use Rattle.hostile_replay.specs.Refusals.{NoneIsOfWords};
 ghost use Rattle.hostile_replay.specs.Steadily.{CommandsAreWhole};
 ghost use Rattle.hostile_replay.specs.Undisturbed.{PlainIsDone, TurnsAreMarked, UnsharedIsAlone};
@@ -85,4 +87,15 @@ pub fn none_is_of_words()
 /// All that a world promises.
 pub fn headline()
     ensures { Headline }
+{}
+
+/// Where somebody else was to write the outcome cell of a fresh volume's ingest, which is acknowledged all the same, the
+/// moment was past the commit.
+pub fn commits_come_first()
+    ensures { CommitsComeFirst }
+{}
+
+/// Where somebody else abandons slot 0 before one of the first eight steps of its ingest, that is not acknowledged.
+pub fn abandoned_is_not_acknowledged()
+    ensures { AbandonedIsNotAcknowledged }
 {}

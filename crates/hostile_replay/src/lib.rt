@@ -30,8 +30,9 @@ mod queries;
 mod replaying;
 
 pub use laws::{
-    acknowledged_are_returned, commands_are_whole, commands_complete, headline, ingests_are_held,
-    none_is_of_words, plain_is_done, returned_stand, tampering_is_evident, told_is_exact,
-    turns_are_marked, unshared_is_alone,
+    abandoned_is_not_acknowledged, acknowledged_are_returned, commands_are_whole,
+    commands_complete, commits_come_first, headline, ingests_are_held, none_is_of_words,
+    plain_is_done, returned_stand, tampering_is_evident, told_is_exact, turns_are_marked,
+    unshared_is_alone,
 };
 pub use replaying::replay;

@@ -2,12 +2,14 @@ pub mod Apart
 pub mod Arriving
 pub mod Calls
 pub mod Counted
+pub mod Counting
 pub mod Cells
 pub mod Following
 pub mod Keeping
 pub mod Losing
 pub mod Crashes
 pub mod Others
+pub mod OwnChanges
 pub mod Planning
 pub mod Running
 pub mod MadeThen

@@ -24,18 +24,18 @@ use Rattle.worm_memory.proofs.Accounts.{all_both, all_more, ordered_next, reache
 use Rattle.worm_memory.proofs.Worlds.{image_is}
 
 -- What others write as a call comes: the changes that it adds.
-abbrev one_added : Bool → Option (List ℕ) → Timed → List Change
+abbrev pub one_added : Bool → Option (List ℕ) → Timed → List Change
 one_added false found t = []
 one_added true (Some there) t = []
 one_added true None t = Foreign t.at t.value ∷ []
 
-abbrev added : Bool → List Timed → Course → List Change
+abbrev pub added : Bool → List Timed → Course → List Change
 added b [] x = []
 added b (t ∷ rest) x =
     one_added (names t.before b x.steps x.calls) ((world x.changes).image t.at) t ++ added b rest (planned_write b t x)
 
 -- changes were added, each in the call of these numbers, which are those of the course
-record AddsIn (k : CallNumbers) (x y : Course) (more : List Change) : Type 0 where
+pub record AddsIn (k : CallNumbers) (x y : Course) (more : List Change) : Type 0 where
   pub changes : y.changes ≡ x.changes ++ more
   pub made_in : y.made_in ≡ x.made_in ++ map (λ change. k) more
   pub numbers : call_in y ≡ call_in x
@@ -58,7 +58,7 @@ adds_then k x y z first second p q = record {
   numbers = q.numbers ∙ p.numbers;
 }
 
-one_adds : (k : CallNumbers) (named : Bool) (found : Option (List ℕ)) (t : Timed) (x : Course) → call_in x ≡ k
+pub one_adds : (k : CallNumbers) (named : Bool) (found : Option (List ℕ)) (t : Timed) (x : Course) → call_in x ≡ k
     → AddsIn k x (if named then planned_into found t x else x) (one_added named found t)
 one_adds k false found t x is = adds_none k x
 one_adds k true (Some there) t x is = adds_none k x
@@ -68,7 +68,7 @@ one_adds k true None t x is = record {
   numbers = refl;
 }
 
-writes_add : (k : CallNumbers) (b : Bool) (rest : List Timed) (x : Course) → call_in x ≡ k
+pub writes_add : (k : CallNumbers) (b : Bool) (rest : List Timed) (x : Course) → call_in x ≡ k
     → AddsIn k x (planned_writes b rest x) (added b rest x)
 writes_add k b [] x is = adds_none k x
 writes_add k b (t ∷ rest) x is =
@@ -124,35 +124,35 @@ all_named b (h ∷ rest) x =
     (λ t. tail_made b named found x h t (added b rest next)) rest (all_named b rest next))
 
 -- Changes with the numbers of their calls, pair by pair.
-abbrev Noted : Type 0
+abbrev pub Noted : Type 0
 Noted = List (Change × CallNumbers)
 
-abbrev changes_of : Noted → List Change
+abbrev pub changes_of : Noted → List Change
 changes_of noted = map (λ (p : Change × CallNumbers). p.0) noted
 
-abbrev numbers_of : Noted → List CallNumbers
+abbrev pub numbers_of : Noted → List CallNumbers
 numbers_of noted = map (λ (p : Change × CallNumbers). p.1) noted
 
-abbrev with_more : CallNumbers → List Change → Noted → Noted
+abbrev pub with_more : CallNumbers → List Change → Noted → Noted
 with_more k more noted = noted ++ map (λ change. (change, k)) more
 
-changes_more : (k : CallNumbers) (more : List Change) (noted : Noted)
+pub changes_more : (k : CallNumbers) (more : List Change) (noted : Noted)
     → changes_of (with_more k more noted) ≡ changes_of noted ++ more
 changes_more k [] [] = refl
 changes_more k (c ∷ more) [] = ap (λ (l : List Change). c ∷ l) (changes_more k more [])
 changes_more k more (p ∷ noted) = ap (λ (l : List Change). p.0 ∷ l) (changes_more k more noted)
 
-numbers_more : (k : CallNumbers) (more : List Change) (noted : Noted)
+pub numbers_more : (k : CallNumbers) (more : List Change) (noted : Noted)
     → numbers_of (with_more k more noted) ≡ numbers_of noted ++ map (λ change. k) more
 numbers_more k [] [] = refl
 numbers_more k (c ∷ more) [] = ap (λ (l : List CallNumbers). k ∷ l) (numbers_more k more [])
 numbers_more k more (p ∷ noted) = ap (λ (l : List CallNumbers). p.1 ∷ l) (numbers_more k more noted)
 
-abbrev before_in : Moment → Noted → List Change
+abbrev pub before_in : Moment → Noted → List Change
 before_in moment noted = made_before moment (changes_of noted) (numbers_of noted)
 
 -- what is made once the moment has come was not made before
-before_more : (moment : Moment) (k : CallNumbers) (more : List Change) (noted : Noted)
+pub before_more : (moment : Moment) (k : CallNumbers) (more : List Change) (noted : Noted)
     → is_past moment k.steps k.calls ≡ true → before_in moment (with_more k more noted) ≡ before_in moment noted
 before_more moment k [] [] past = refl
 before_more moment k (c ∷ more) [] past =
@@ -161,7 +161,7 @@ before_more moment k more (p ∷ noted) past =
     ap (λ (l : List Change). if is_past moment p.1.steps p.1.calls then [] else p.0 ∷ l) (before_more moment k more noted past)
 
 -- each was made in one of so many steps and calls
-abbrev AreMade : ℕ → ℕ → Noted → Type 0
+abbrev pub AreMade : ℕ → ℕ → Noted → Type 0
 AreMade s c [] = Unit
 AreMade s c (p ∷ noted) = (p.1.steps ≤ s) × (p.1.calls ≤ c) × AreMade s c noted
 
@@ -209,16 +209,16 @@ passes_too true r0 false blank0 any any0 was same more so = refl
 passes_too true r0 true blank0 any any0 was same more so =
     more (sym (cond-true (r0 && blank0) any0 true (and_from r0 blank0 was (sym same))) ∙ so)
 
-any_left : (f : Change → Bool) (xs ys : List Change) → list_any f xs ≡ true → list_any f (xs ++ ys) ≡ true
+pub any_left : (f : Change → Bool) (xs ys : List Change) → list_any f xs ≡ true → list_any f (xs ++ ys) ≡ true
 any_left f xs ys is = list_any-append f xs ys ∙ or_left (list_any f xs) (list_any f ys) is
 
-any_right : (f : Change → Bool) (xs ys : List Change) → list_any f ys ≡ true → list_any f (xs ++ ys) ≡ true
+pub any_right : (f : Change → Bool) (xs ys : List Change) → list_any f ys ≡ true → list_any f (xs ++ ys) ≡ true
 any_right f [] ys is = is
 any_right f (x ∷ xs) ys is =
     or_right (f x) (list_any f (xs ++ ys)) (any_right f xs ys is)
 
 -- What a run tells of the planned foreign writes, from its beginning on.
-record Tells (p : CommandPlan) (b x : Course) : Type 0 where
+pub record Tells (p : CommandPlan) (b x : Course) : Type 0 where
   pub noted : Noted
   pub changes : x.changes ≡ b.changes ++ changes_of noted
   pub made_in : x.made_in ≡ b.made_in ++ numbers_of noted
@@ -236,7 +236,7 @@ none_reached s c begun (t ∷ rest) le zero =
     (reached_none s c le zero t.before))
     (none_reached s c begun rest le zero)
 
-tells_first : (p : CommandPlan) (b : Course) → b.steps ≡ 0 → b.calls ≡ 0 → Tells p b b
+pub tells_first : (p : CommandPlan) (b : Course) → b.steps ≡ 0 → b.calls ≡ 0 → Tells p b b
 tells_first p b steps calls = record {
   noted = [];
   changes = sym (append-nil b.changes);
@@ -247,7 +247,12 @@ tells_first p b steps calls = record {
   made = none_reached b.steps b.calls b.changes p.foreign (omega (arith, steps, calls)) calls;
 }
 
-abbrev own_of : Bool → OneCall → List Change
+pub noted_first : (p : CommandPlan) (b : Course) (steps : b.steps ≡ 0) (calls : b.calls ≡ 0)
+    → (tells_first p b steps calls).noted ≡ []
+unfolding tells_first
+noted_first p b steps calls = refl
+
+abbrev pub own_of : Bool → OneCall → List Change
 own_of true call = []
 own_of false call = own_changes call
 
@@ -266,43 +271,43 @@ so_adds k false call came is = record {
 
 -- One call more.
 module _ (p : CommandPlan) (b x : Course) (call : OneCall) (so : Tells p b x) where
-  abbrev step : Bool
+  abbrev pub step : Bool
   step = is_step_of call
 
-  abbrev s' : ℕ
+  abbrev pub s' : ℕ
   s' = next_step step x.steps
 
-  abbrev c' : ℕ
+  abbrev pub c' : ℕ
   c' = next_count x.calls
 
-  abbrev begun_call : Course
+  abbrev pub begun_call : Course
   begun_call = counted_call step x
 
-  abbrev k : CallNumbers
+  abbrev pub k : CallNumbers
   k = call_in begun_call
 
-  abbrev refused : Bool
+  abbrev pub refused : Bool
   refused = is_refused step p x.steps x.calls
 
-  abbrev theirs : List Change
+  abbrev pub theirs : List Change
   theirs = added step p.foreign begun_call
 
-  abbrev extra : List Change
+  abbrev pub extra : List Change
   extra = theirs ++ own_of refused call
 
-  abbrev noted' : Noted
+  abbrev pub noted' : Noted
   noted' = with_more k extra so.noted
 
-  adds : AddsIn k begun_call (after_call p call x) extra
+  pub adds : AddsIn k begun_call (after_call p call x) extra
   adds =
       let first = writes_add k step p.foreign begun_call refl in
       adds_then k begun_call (after_coming p step x) (after_call p call x) theirs (own_of refused call) first
       (so_adds k refused call (after_coming p step x) first.numbers)
 
-  steps_are : (after_call p call x).steps ≡ s'
+  pub steps_are : (after_call p call x).steps ≡ s'
   steps_are = ap (λ (n : CallNumbers). n.steps) adds.numbers
 
-  calls_are : (after_call p call x).calls ≡ c'
+  pub calls_are : (after_call p call x).calls ≡ c'
   calls_are = ap (λ (n : CallNumbers). n.calls) adds.numbers
 
   few_steps : x.steps < 2 ^ 64
@@ -359,7 +364,7 @@ module _ (p : CommandPlan) (b x : Course) (call : OneCall) (so : Tells p b x) wh
       (cases_Bool (is_reached s' c' t.before)))
       (cases_Bool (is_reached x.steps x.calls t.before))
 
-  tells_call : Tells p b (after_call p call x)
+  pub tells_call : Tells p b (after_call p call x)
   tells_call = record {
     noted = noted';
     changes = adds.changes ∙ ap (λ (l : List Change). l ++ extra) so.changes
@@ -381,19 +386,24 @@ module _ (p : CommandPlan) (b x : Course) (call : OneCall) (so : Tells p b x) wh
         each_made p.foreign so.made (all_named step p.foreign begun_call);
   }
 
+  -- the changes that are noted then
+  pub noted_call : tells_call.noted ≡ noted'
+  unfolding tells_call
+  noted_call = refl
+
 tells_calls : (p : CommandPlan) (b : Course) (calls : List OneCall) (x : Course) → Tells p b x
     → Tells p b (after_calls p calls x)
 tells_calls p b [] x so = so
 tells_calls p b (call ∷ calls) x so = tells_calls p b calls (after_call p call x) (tells_call p b x call so)
 
 -- what a row holds behind its beginning
-begun_taken : {A : Type 0} (n : ℕ) (all begun more : List A) → all ≡ begun ++ more → length begun ≡ n
+pub begun_taken : {A : Type 0} (n : ℕ) (all begun more : List A) → all ≡ begun ++ more → length begun ≡ n
     → take n all ≡ begun
 begun_taken n all begun more is so_long =
     ap (take n) is ∙ take-append-le n begun more (omega (arith, so_long))
     ∙ ap (λ m. take m begun) (sym so_long) ∙ take-length begun
 
-begun_dropped : {A : Type 0} (n : ℕ) (all begun more : List A) → all ≡ begun ++ more → length begun ≡ n
+pub begun_dropped : {A : Type 0} (n : ℕ) (all begun more : List A) → all ≡ begun ++ more → length begun ≡ n
     → drop n all ≡ more
 begun_dropped {A} n all begun more is so_long =
     ap (drop n) is ∙ drop-append-le n begun more (omega (arith, so_long))

@@ -3,6 +3,7 @@ pub mod Losses
 pub mod Memory
 pub mod Moments
 pub mod Outcomes
+pub mod OwnChanges
 pub mod Plans
 pub mod Proper
 pub mod Runs

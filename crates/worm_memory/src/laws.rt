@@ -3,6 +3,7 @@
 ghost use Rattle.worm_memory.specs.Device.{ACommandHasRoom, ACrashHasRoom, APlanIsKept, TheCountIsRecorded};
 ghost use Rattle.worm_memory.specs.Losses.{ACrashKeeps, UnsureCells};
 ghost use Rattle.worm_memory.specs.Memory.{BeginningsTell, TheRecordTells};
+ghost use Rattle.worm_memory.specs.OwnChanges.{NoneIsUncounted, OwnChangesTakeSteps, PlannedWritesComeFirst};
 
 /// A crash, as a row of changes, leaves what is kept and what is sure, and all of that is sure then.
 pub fn a_crash_keeps()
@@ -42,4 +43,19 @@ pub fn a_command_has_room()
 /// Where the record has room for one change more than there are cells, a crash finds room.
 pub fn a_crash_has_room()
     ensures { ACrashHasRoom }
+{}
+
+/// A command that goes by its plan changes something itself at most once in a step.
+pub fn own_changes_take_steps()
+    ensures { OwnChangesTakeSteps }
+{}
+
+/// Where somebody else was to write a cell before a moment, what stands there was planned, or was written early.
+pub fn planned_writes_come_first()
+    ensures { PlannedWritesComeFirst }
+{}
+
+/// A command since whose beginning nobody else has written counts nobody else.
+pub fn none_is_uncounted()
+    ensures { NoneIsUncounted }
 {}

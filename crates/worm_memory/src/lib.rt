@@ -47,6 +47,11 @@
 //! off the record. A write of cell 5 that was made in step 9 says that the cell was blank when step 9 came: where
 //! somebody else was to write it before that step, the record has that write, and not this one.
 //!
+//! Each change that a command makes itself takes a step of its own (`own_changes_take_steps`), so what a command cannot do
+//! in fewer changes it has not done before somebody else was to write: `planned_writes_come_first` says that a cell which
+//! somebody else was to write before step 9 holds what was planned, or was written when the command had made fewer than
+//! nine changes itself. A sync that makes nothing sure is a step and no change.
+//!
 //! A **`crash`** takes each cell that is not sure and that it is not told to keep; all that stands then is sure. It
 //! goes into the record cell by cell (`Lost`, then `Crashed`). `a_crash_keeps` says what this row of changes leaves,
 //! and `unsure_cells` which cells a crash could take.
@@ -70,7 +75,8 @@ mod schedule;
 pub use change::Change;
 pub use laws::{
     a_command_has_room, a_crash_has_room, a_crash_keeps, a_plan_is_kept, beginnings_tell,
-    the_count_is_recorded, the_record_tells, unsure_cells,
+    none_is_uncounted, own_changes_take_steps, planned_writes_come_first, the_count_is_recorded,
+    the_record_tells, unsure_cells,
 };
 pub use losses::Crash;
 pub use mark::{CallNumbers, Mark};
