@@ -24,11 +24,15 @@
 mod cells;
 mod devices;
 mod files;
+mod host;
 mod memory;
 mod ports;
 
 pub use cells::{content_of_again, decode_again, encode_again, geometry_again};
 pub use devices::{read_bytes_again, read_planned_again, write_row_again};
 pub use files::{read_at_again, read_file_again, sync_file_again, write_file_again};
+pub use host::{
+    begin_again, read_host_again, sync_host_again, write_host_again, write_host_places_again,
+};
 pub use memory::{crash_again, foreign_before_again, read_memory_again, sync_memory_again};
 pub use ports::{put_again, put_all_again, take_again};

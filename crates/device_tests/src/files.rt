@@ -1,10 +1,8 @@
 //! Devices over a file of the host, and over one that writes down its calls.
 
 use cell_types::Cell;
-use host_files::{FileDevice, Hold, OpenFault, OsFile, Pages};
-use std::fs::{Metadata, OpenFile};
-use std::io::{ErrorKind, Seek, SeekFrom};
-use std::os::unix::fs::FileExt;
+use host_files::{FileDevice, HostCalls, OpenFault, OsFile, Pages};
+use std::io::ErrorKind;
 use std::process::Abort;
 use std::test::Fail;
 use std::{cell, fs, io};
@@ -108,53 +106,38 @@ impl<'a> LoggingFile<'a> {
     }
 }
 
-impl<'a> Hold for LoggingFile<'a> {
-    fn hold(&self) -> io::Result<()> {
+impl<'a> HostCalls for LoggingFile<'a> {
+    ghost use Rattle.std.specs.Prelude.{⊤};
+
+    ghost made = { λ _ _ _. ⊤ };
+
+    fn hold(&mut self) -> io::Result<()> {
         self.log(b'h');
         Ok(())
     }
 
-    fn try_hold(&self) -> io::Result<bool> {
+    fn try_hold(&mut self) -> io::Result<bool> {
         self.log(b't');
         Ok(true)
     }
-}
 
-impl<'a> FileExt for LoggingFile<'a> {
-    fn read_at(&self, buf: &mut [u8], _offset: u64) -> io::Result<usize> {
-        self.log(b'r');
-        buf.fill(0);
-        Ok(buf.len())
-    }
-
-    fn write_at(&self, buf: &[u8], _offset: u64) -> io::Result<usize> {
-        self.log(b'w');
-        Ok(buf.len())
-    }
-}
-
-impl<'a> Seek for LoggingFile<'a> {
-    fn seek(&mut self, to: SeekFrom) -> io::Result<u64> {
-        self.log(if to == SeekFrom::End(0) { b'e' } else { b'?' });
+    fn count_bytes(&mut self) -> io::Result<u64> {
+        self.log(b'e');
         Ok(self.size)
     }
-}
 
-impl<'a> OpenFile for LoggingFile<'a> {
-    fn metadata(&self) -> io::Result<Metadata> {
-        self.log(b'm');
-        Ok(Metadata::of_file(self.size))
+    fn read_exact_at(&mut self, into: &mut [u8], _from: u64) -> io::Result<()> {
+        self.log(b'r');
+        into.fill(0);
+        Ok(())
     }
 
-    fn set_len(&self, _size: u64) -> io::Result<()> {
-        Err(io::Error::from(ErrorKind::Unsupported))
+    fn write_all_at(&mut self, _bytes: &[u8], _from: u64) -> io::Result<()> {
+        self.log(b'w');
+        Ok(())
     }
 
-    fn sync_all(&self) -> io::Result<()> {
-        Err(io::Error::from(ErrorKind::Unsupported))
-    }
-
-    fn sync_data(&self) -> io::Result<()> {
+    fn sync_data(&mut self) -> io::Result<()> {
         self.log(b's');
         Err(io::Error::from(ErrorKind::Other))
     }

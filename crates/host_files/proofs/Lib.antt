@@ -1,3 +1,4 @@
+pub mod Beginning
 pub mod Changes
 pub mod Crashing
 pub mod Images

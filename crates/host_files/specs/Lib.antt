@@ -2,6 +2,7 @@ pub mod Cells
 pub mod Crashes
 pub mod Device
 pub mod File
+pub mod HostCalls
 pub mod Memory
 pub mod MemoryFile
 pub mod Metered

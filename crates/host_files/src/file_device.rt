@@ -5,11 +5,8 @@ ghost use Rattle.host_files.specs.Device.{SureStands};
 ghost use Rattle.host_files.specs.Pages.{Mirror};
 ghost use Rattle.std.proofs.Props.{props};
 
-use crate::{Hold, HostFile, OsFile, Pages, open_file};
+use crate::{HostCalls, HostFile, OsFile, Pages, open_file};
 use cell_types::MAX_CELLS;
-use std::fs::OpenFile;
-use std::io::Seek;
-use std::os::unix::fs::FileExt;
 use std::rt::Files;
 
 /// Why a file was not opened as a device.
@@ -83,7 +80,7 @@ impl<F: HostFile + Drop> FileDevice<F> {
     }
 }
 
-impl<F: FileExt + OpenFile + Seek + Hold + Drop> FileDevice<OsFile<F>> {
+impl<F: HostCalls + Drop> FileDevice<OsFile<F>> {
     ghost use Rattle.host_files.specs.declared.file_device.OpenFault.TheVariants.{Size};
 
     /// Opens a file that exists as a device, for reading and, where the host allows it, writing: else each write fails.

@@ -12,7 +12,7 @@
 //! places, sync. Contracts see its bytes, what of them is sure, and what it held at each moment before, where it tells
 //! them:
 //!
-//!     OsFile         a file of the operating system: tells nothing, and is trusted to do what its calls say
+//!     OsFile         a file of the operating system: tells nothing, but says which calls of the host it makes
 //!     MemoryFile     bytes in memory: tells everything, and fails at the call that it is told
 //!
 //! `FileDevice` answers its reads from sixteen pages of the file in memory, and writes past them:
@@ -27,6 +27,8 @@
 //! written by somebody else. In a crash a place is whole: it holds what was sure or what stood there. That is assumed
 //! of the host (`CrashLeaves`), and proved of nothing.
 //!
+//! `HostCalls` is what is asked of an open file of the host. What these calls do is trusted.
+//!
 //! Stands on `worm_device`, for `Device`, and on `cell_types`, for `Cell`. Begin with `host_file.rt`;
 //! `specs/Device.antt` says what a file is as a device, and `specs/Crashes.antt` what a crash leaves of it.
 #![tactic(auto)]
@@ -34,6 +36,7 @@
 mod change;
 mod device;
 mod file_device;
+mod host_calls;
 mod host_file;
 mod laws;
 mod memory_calls;
@@ -46,9 +49,10 @@ mod rows;
 
 pub use change::{FileChange, Leaving};
 pub use file_device::{FileDevice, OpenFault};
+pub use host_calls::HostCalls;
 pub use host_file::HostFile;
 pub use laws::crashes_are_seen;
 pub use memory_file::MemoryFile;
 pub use metered_file::MeteredFile;
-pub use os_file::{Hold, OsFile, open_file};
+pub use os_file::{OsFile, open_file};
 pub use pages::Pages;

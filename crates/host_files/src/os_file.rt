@@ -1,6 +1,7 @@
-//! A file of the operating system: the edge that is trusted. It tells nothing, since no clause can say what such a
-//! file holds. That a read gives what stands there, that a write touches no other byte, that a sync has made sure all
-//! that was written, and that one program at a time holds the lock, is what its calls of the system are trusted to do.
+//! A file of the operating system. It tells nothing, since no clause can say what such a file holds. But each of its
+//! calls says which calls of the host it has made, in which order, with which bytes, and what they answered
+//! (`HostCalls`). That of those a read gives what stands there, a write touches no other byte, a sync makes sure all
+//! that was written, and one program at a time holds the lock, is trusted.
 //!
 //! The lock is taken before the first read, write or sync, so that whoever takes long to hand in a body holds nobody
 //! up, and is kept until the file is closed:
@@ -14,41 +15,17 @@
 //!
 //! A host may let go what it once refused to sync, and answer the next sync all the same. So after a sync that failed
 //! no call answers.
-ghost use Rattle.std.specs.Prelude.{◌≡◌, ◌≤◌, ◌<◌, ◌+◌, ◌*◌, ◌^◌, length, OnOk, OnErr};
+ghost use Rattle.std.specs.Prelude.{◌≡◌, ◌≤◌, ◌<◌, ◌+◌, ◌*◌, ◌%◌, ◌^◌, length, OnErr, OnOk};
 ghost use Rattle.worm_device.specs.Counts.{next_count};
-ghost use Rattle.host_files.specs.File.{ReadsAt, WritesAt, WritesPlaces, Flushes};
-ghost use Rattle.host_files.specs.OsFile.{os_file_state};
+ghost use Rattle.host_files.specs.File.{ReadsAt, WritesAt, WritesPlaces, Flushes, IsAsked, WasReadBlank};
+ghost use Rattle.host_files.specs.OsFile.{os_file_state, AsksToRead, AsksToSync, AsksToWrite, Begins, IsCounted, IsUntouched};
 ghost use Rattle.host_files.specs.Proper.{is_file, untold};
 
-use crate::HostFile;
-use std::fs::{File, OpenFile, OpenOptions, TryLockError};
-use std::io::{self, ErrorKind, Seek, SeekFrom};
-use std::os::unix::fs::FileExt;
+use crate::{HostCalls, HostFile};
+use std::fs::{OpenFile, OpenOptions};
+use std::io::{self, ErrorKind};
 use std::rt::Files;
 use worm_device::Failed;
-
-/// An open file that one program at a time may hold.
-pub trait Hold {
-    /// Waits until nobody else holds the file, and holds it until it is closed.
-    fn hold(&self) -> io::Result<()>;
-
-    /// Holds the file until it is closed, unless somebody else holds it, and says whether it does.
-    fn try_hold(&self) -> io::Result<bool>;
-}
-
-impl Hold for File {
-    fn hold(&self) -> io::Result<()> {
-        self.lock()
-    }
-
-    fn try_hold(&self) -> io::Result<bool> {
-        match self.try_lock() {
-            Ok(()) => Ok(true),
-            Err(TryLockError::WouldBlock) => Ok(false),
-            Err(TryLockError::Error(error)) => Err(error),
-        }
-    }
-}
 
 /// Whether calls may go on.
 #[derive(Clone, Copy)]
@@ -90,27 +67,24 @@ fn is_of_writing(kind: ErrorKind) -> bool {
     )
 }
 
-impl<F: Seek + Drop> OsFile<F> {
+impl<F: HostCalls + Drop> OsFile<F> {
     ghost use Rattle.std.specs.Prelude.{IfOk};
-    ghost use Rattle.host_files.specs.OsFile.{os_file_state};
-    ghost use Rattle.host_files.specs.Proper.{untold};
 
     /// A file that is open already. The host's error comes where it has no length, as a pipe.
     pub fn of(mut file: F) -> io::Result<OsFile<F>>
-        ensures fresh { IfOk result (λ file. os_file_state file ≡ untold (os_file_state file).size 0) }
+        ensures fresh { IfOk result (λ made. os_file_state made ≡ untold (os_file_state made).size 0) }
+        ensures counted { IfOk result (IsCounted F.made file) }
     {
-        let size = file.seek(SeekFrom::End(0))?;
+        let size = file.count_bytes()?;
         Ok(OsFile::over(file, size))
     }
 }
 
 impl<F> OsFile<F> {
-    ghost use Rattle.host_files.specs.OsFile.{os_file_state};
-    ghost use Rattle.host_files.specs.Proper.{untold};
-
     /// A file that is open already, and has so many bytes.
     pub fn over(file: F, size: u64) -> OsFile<F>
-        ensures { os_file_state result ≡ untold size 0 }
+        ensures fresh { os_file_state result ≡ untold size 0 }
+        ensures untouched { IsUntouched file size result }
     {
         OsFile {
             file,
@@ -120,93 +94,127 @@ impl<F> OsFile<F> {
         }
     }
 
-    /// What a call answers. An error is one fault.
-    fn answer(&mut self, done: io::Result<()>) -> Result<(), Failed>
+    /// One fault more.
+    fn fail(&mut self) -> Failed
+        ensures counted { os_file_state self.new
+            ≡ untold (os_file_state self.old).size (next_count (os_file_state self.old).faults) }
+        ensures fits { (os_file_state self.old).faults < 2 ^ 64 }
+        ensures file { self.new.file ≡ self.old.file }
+        ensures access { self.new.access ≡ self.old.access }
+    {
+        self.faults = self.faults.saturating_add(1);
+        Failed
+    }
+}
+
+impl<F: HostCalls> OsFile<F> {
+    ghost use Rattle.host_files.specs.declared.os_file.Access.TheVariants.{Free};
+
+    /// Takes the lock, unless it is held, and looks anew at what was read before it, as each call does first: for
+    /// whoever has to hold several files, and so in an order that all keep to. Refuses all after a sync that failed.
+    pub fn begin(&mut self) -> io::Result<()>
+        ensures state { os_file_state self.new ≡ os_file_state self.old }
+        ensures begins { Begins F.made self.old self.new result }
+    {
+        match self.access {
+            Access::Held => Ok(()),
+            Access::Lost => Err(io::Error::from(ErrorKind::Other)),
+            Access::Free => self.take_hold(),
+        }
+    }
+
+    /// Takes the lock, and finds the number of bytes as it was.
+    fn take_hold(&mut self) -> io::Result<()>
+        requires { self.old.access ≡ Free }
+        ensures state { os_file_state self.new ≡ os_file_state self.old }
+        ensures begins { Begins F.made self.old self.new result }
+    {
+        if let Err(error) = self.file.hold() {
+            return Err(error);
+        }
+        match self.file.count_bytes() {
+            Ok(found) if found == self.size => {
+                self.access = Access::Held;
+                Ok(())
+            }
+            Ok(_) => Err(io::Error::from(ErrorKind::Other)),
+            Err(error) => Err(error),
+        }
+    }
+
+    /// Writes all these bytes from an offset on.
+    fn write_all(&mut self, bytes: &[u8], from: u64) -> Result<(), Failed>
         ensures ok { OnOk result (os_file_state self.new ≡ os_file_state self.old) }
         ensures err { OnErr result (os_file_state self.new
             ≡ untold (os_file_state self.old).size (next_count (os_file_state self.old).faults)) }
         ensures fits { (os_file_state self.old).faults < 2 ^ 64 }
+        ensures asks { AsksToWrite F.made from bytes.now self.old self.new result }
     {
         let _faults = self.faults;
-        match done {
-            Ok(()) => Ok(()),
-            Err(_) => {
-                self.faults = self.faults.saturating_add(1);
-                Err(Failed)
-            }
-        }
+        let Ok(()) = self.begin() else {
+            return Err(self.fail());
+        };
+        let Ok(()) = self.file.write_all_at(bytes, from) else {
+            return Err(self.fail());
+        };
+        Ok(())
     }
 }
 
-impl<F: OpenFile + Seek + Hold> OsFile<F> {
-    ghost use Rattle.host_files.specs.OsFile.{os_file_state};
-
-    /// Takes the lock, unless it is held, and looks anew at what was read before it, as each call does first: for whoever
-    /// has to hold several files, and so in an order that all keep to. Refuses all after a sync that failed.
-    pub fn begin(&mut self) -> io::Result<()>
-        ensures { os_file_state self.new ≡ os_file_state self.old }
-    {
-        match self.access {
-            Access::Held => Ok(()),
-            Access::Lost => Err(io::Error::from(io::ErrorKind::Other)),
-            Access::Free => {
-                self.file.hold()?;
-                if self.file.seek(SeekFrom::End(0))? != self.size {
-                    return Err(io::Error::from(io::ErrorKind::Other));
-                }
-                self.access = Access::Held;
-                Ok(())
-            }
-        }
-    }
-
-    /// Syncs the file's data. After a failure no call answers.
-    fn flush(&mut self) -> io::Result<()>
-        ensures { os_file_state self.new ≡ os_file_state self.old }
-    {
-        self.begin()?;
-        let done = self.file.sync_data();
-        if done.is_err() {
-            self.access = Access::Lost;
-        }
-        done
-    }
-}
-
-impl<F: FileExt + OpenFile + Seek + Hold> HostFile for OsFile<F> {
+impl<F: HostCalls> HostFile for OsFile<F> {
     ghost state = { os_file_state };
 
     fn size(&self) -> u64 {
         self.size
     }
 
-    fn read_at(&mut self, into: &mut [u8], from: u64) -> Result<(), Failed> {
-        let done = match self.begin() {
-            Ok(()) => self.file.read_exact_at(into, from),
-            Err(error) => Err(error),
+    fn read_at(&mut self, into: &mut [u8], from: u64) -> Result<(), Failed>
+        requires { from + length into.old ≤ (os_file_state self.old).size }
+        ensures reads { ReadsAt from into.new (os_file_state self.old) (os_file_state self.new) result }
+        ensures asks { AsksToRead F.made from into.new self.old self.new result }
+    {
+        let Ok(()) = self.begin() else {
+            return Err(self.fail());
         };
-        self.answer(done)
+        let Ok(()) = self.file.read_exact_at(into, from) else {
+            return Err(self.fail());
+        };
+        Ok(())
     }
 
-    fn write_at(&mut self, piece: &[u8; 16], from: u64) -> Result<(), Failed> {
-        let done = match self.begin() {
-            Ok(()) => self.file.write_all_at(piece, from),
-            Err(error) => Err(error),
-        };
-        self.answer(done)
+    fn write_at(&mut self, piece: &[u8; 16], from: u64) -> Result<(), Failed>
+        requires inside { from + 16 ≤ (os_file_state self.old).size }
+        requires place { from % 16 ≡ 0 }
+        requires asked { IsAsked from (os_file_state self.old) }
+        ensures writes { WritesAt from piece.now (os_file_state self.old) (os_file_state self.new) result }
+        ensures asks { AsksToWrite F.made from piece.now self.old self.new result }
+    {
+        self.write_all(piece, from)
     }
 
-    fn write_places(&mut self, bytes: &[u8], from: u64) -> Result<(), Failed> {
-        let done = match self.begin() {
-            Ok(()) => self.file.write_all_at(bytes, from),
-            Err(error) => Err(error),
-        };
-        self.answer(done)
+    fn write_places(&mut self, bytes: &[u8], from: u64) -> Result<(), Failed>
+        requires inside { from + length bytes.now ≤ (os_file_state self.old).size }
+        requires place { from % 16 ≡ 0 }
+        requires whole { length bytes.now % 16 ≡ 0 }
+        requires asked { WasReadBlank from (length bytes.now) (os_file_state self.old) }
+        ensures writes { WritesPlaces from bytes.now (os_file_state self.old) (os_file_state self.new) result }
+        ensures asks { AsksToWrite F.made from bytes.now self.old self.new result }
+    {
+        self.write_all(bytes, from)
     }
 
-    fn sync(&mut self) -> Result<(), Failed> {
-        let done = self.flush();
-        self.answer(done)
+    fn sync(&mut self) -> Result<(), Failed>
+        ensures flushes { Flushes (os_file_state self.old) (os_file_state self.new) result }
+        ensures asks { AsksToSync F.made self.old self.new result }
+    {
+        let Ok(()) = self.begin() else {
+            return Err(self.fail());
+        };
+        let Ok(()) = self.file.sync_data() else {
+            self.access = Access::Lost;
+            return Err(self.fail());
+        };
+        Ok(())
     }
 
     ghost proper = { λ f. is_file f.size f.faults };

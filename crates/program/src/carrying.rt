@@ -1,11 +1,10 @@
 //! A command, carried out by the words that ask for it.
 use cell_types::{CopyRefusal, Refusal, memory};
-use host_files::Hold;
+use host_files::HostCalls;
 use host_ports::{Sink, Source, StdSink, put_all};
 use program_host::{Fault, FileNumber, Terminal, device_over, hold_both, open};
 use record_top::{run, run_over_file, run_two_over_files};
-use std::io::{Seek, Stderr};
-use std::os::unix::fs::FileExt;
+use std::io::Stderr;
 use std::rt::Files;
 use worm_memory::MemoryDevice;
 
@@ -16,7 +15,7 @@ const LINE_BYTES: usize = 64;
 /// to standard error, where that is a terminal. What a command over a file puts out goes out once the file is let go: who
 /// reads it slowly, or calls the program again meanwhile, holds nobody up.
 pub fn carry_out<S: Source, K: Sink>(
-    rt: &(impl Files<File: FileExt + Hold + Seek> + AllocGlobal),
+    rt: &(impl Files<File: HostCalls> + AllocGlobal),
     mut words: Vec<String>,
     source: &mut S,
     sink: &mut K,
@@ -54,7 +53,7 @@ pub fn carry_out<S: Source, K: Sink>(
 
 /// Carries out a command over one file, which is let go then.
 fn work_on_file<S: Source>(
-    rt: &(impl Files<File: FileExt + Hold + Seek> + AllocGlobal),
+    rt: &(impl Files<File: HostCalls> + AllocGlobal),
     standard_error: Stderr,
     image: &str,
     words: &[String],
@@ -88,7 +87,7 @@ fn reads_all(words: &[String]) -> bool {
 
 /// Copies the volume in one file to another, the target, whose path stands behind the first word.
 fn copy(
-    rt: &(impl Files<File: FileExt + Hold + Seek> + AllocGlobal),
+    rt: &(impl Files<File: HostCalls> + AllocGlobal),
     standard_error: Stderr,
     image: &str,
     mut words: Vec<String>,

@@ -1,7 +1,8 @@
 //! What the program has of the host: its words, the files that it opens as devices, the line on a terminal that says how far
 //! a command is, and the fault that it ends with, as a line and a status.
 //!
-//! Nothing here knows what a command does. No clause says what a file of the operating system holds.
+//! Nothing here knows what a command does. No clause says what a file of the operating system holds, but which calls of
+//! the host are made of it.
 //!
 //! Stands on `host_files`, which has the devices over files. Begin with `opening.rt`.
 #![tactic(auto)]

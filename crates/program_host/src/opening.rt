@@ -1,20 +1,21 @@
 //! Files of the host, opened as devices.
+ghost use Rattle.program_host.specs.Holding.{HoldsInOrder};
+
 use crate::fault::Fault;
 use crate::terminal::Terminal;
 use crate::waiting::WaitingFile;
 use cell_types::Refusal;
-use host_files::{FileDevice, Hold, MeteredFile, OsFile, Pages, open_file};
+use host_files::{FileDevice, HostCalls, MeteredFile, OsFile, Pages, open_file};
 use std::alloc::Global;
-use std::fs::OpenFile;
-use std::io::{Seek, Stderr};
-use std::os::unix::fs::{FileExt, MetadataExt};
+use std::io::Stderr;
+use std::os::unix::fs::MetadataExt;
 use std::rt::Files;
 
 /// A file of the host that tells a terminal what it waits for.
 pub type HeldFile<F> = OsFile<WaitingFile<F>>;
 
 /// Opens a file that exists. A word with a hyphen in front is meant as an option, and the program has none.
-pub fn open<R: Files<File: Seek>>(
+pub fn open<R: Files<File: HostCalls>>(
     rt: &R,
     path: &str,
     standard_error: Stderr,
@@ -27,7 +28,7 @@ pub fn open<R: Files<File: Seek>>(
 }
 
 /// The file as a device, whose reads are told to this meter.
-pub fn device_over<F: FileExt + OpenFile + Seek + Hold + Drop>(
+pub fn device_over<F: HostCalls + Drop>(
     alloc: Global,
     file: HeldFile<F>,
     meter: Terminal,
@@ -61,7 +62,9 @@ impl FileNumber {
 
 /// Waits until nobody else holds either file, the first one first: where all keep to one order, no two programs wait for
 /// each other. A file that can't be held says so again at its first read, and why is told then.
-pub fn hold_both<F: OpenFile + Seek + Hold>(first: &mut HeldFile<F>, second: &mut HeldFile<F>) {
+pub fn hold_both<F: HostCalls>(first: &mut HeldFile<F>, second: &mut HeldFile<F>)
+    ensures { HoldsInOrder ⟦<WaitingFile<F> as HostCalls>⟧.made first.old first.new second.old second.new }
+{
     if first.begin().is_ok() {
         let _ = second.begin();
     }

@@ -1,8 +1,9 @@
 //! A file that says on a terminal when it has to wait for another program.
-use host_files::Hold;
-use std::fs::{Metadata, OpenFile};
-use std::io::{self, IsTerminal, Seek, SeekFrom, Stderr};
-use std::os::unix::fs::FileExt;
+ghost use Rattle.std.specs.Prelude.{◌≡◌};
+ghost use Rattle.program_host.specs.Waiting.{WaitsBy, file_below};
+
+use host_files::HostCalls;
+use std::io::{self, IsTerminal, Stderr};
 
 /// A file of the host. Where another program holds it, a line on standard error says that this one waits, if that is a
 /// terminal. All else is the file below.
@@ -14,15 +15,21 @@ pub struct WaitingFile<F> {
 
 impl<F> WaitingFile<F> {
     /// This file.
-    pub fn new(file: F, shown_on: Stderr) -> WaitingFile<F> {
+    pub fn new(file: F, shown_on: Stderr) -> WaitingFile<F>
+        ensures { file_below result ≡ file }
+    {
         WaitingFile { file, shown_on }
     }
 }
 
-impl<F: Hold> Hold for WaitingFile<F> {
-    fn hold(&self) -> io::Result<()> {
-        if self.file.try_hold()? {
-            return Ok(());
+impl<F: HostCalls> HostCalls for WaitingFile<F> {
+    ghost made = { λ old call new. WaitsBy F.made (file_below old) call (file_below new) };
+
+    fn hold(&mut self) -> io::Result<()> {
+        match self.file.try_hold() {
+            Ok(true) => return Ok(()),
+            Ok(false) => (),
+            Err(error) => return Err(error),
         }
         let shown_on = self.shown_on;
         if shown_on.is_terminal() {
@@ -32,41 +39,23 @@ impl<F: Hold> Hold for WaitingFile<F> {
         self.file.hold()
     }
 
-    fn try_hold(&self) -> io::Result<bool> {
+    fn try_hold(&mut self) -> io::Result<bool> {
         self.file.try_hold()
     }
-}
 
-impl<F: FileExt> FileExt for WaitingFile<F> {
-    fn read_at(&self, buf: &mut [u8], offset: u64) -> io::Result<usize> {
-        self.file.read_at(buf, offset)
+    fn count_bytes(&mut self) -> io::Result<u64> {
+        self.file.count_bytes()
     }
 
-    fn write_at(&self, buf: &[u8], offset: u64) -> io::Result<usize> {
-        self.file.write_at(buf, offset)
-    }
-}
-
-impl<F: Seek> Seek for WaitingFile<F> {
-    fn seek(&mut self, to: SeekFrom) -> io::Result<u64> {
-        self.file.seek(to)
-    }
-}
-
-impl<F: OpenFile> OpenFile for WaitingFile<F> {
-    fn metadata(&self) -> io::Result<Metadata> {
-        self.file.metadata()
+    fn read_exact_at(&mut self, into: &mut [u8], from: u64) -> io::Result<()> {
+        self.file.read_exact_at(into, from)
     }
 
-    fn set_len(&self, size: u64) -> io::Result<()> {
-        self.file.set_len(size)
+    fn write_all_at(&mut self, bytes: &[u8], from: u64) -> io::Result<()> {
+        self.file.write_all_at(bytes, from)
     }
 
-    fn sync_all(&self) -> io::Result<()> {
-        self.file.sync_all()
-    }
-
-    fn sync_data(&self) -> io::Result<()> {
+    fn sync_data(&mut self) -> io::Result<()> {
         self.file.sync_data()
     }
 }

@@ -17,10 +17,9 @@
 
 mod transcript;
 
-use host_files::Hold;
+use host_files::HostCalls;
 use std::fs;
-use std::io::{self, Seek, Stderr};
-use std::os::unix::fs::FileExt;
+use std::io::{self, Stderr};
 use std::rt::Files;
 use transcript::{Stop, play};
 
@@ -30,7 +29,7 @@ fn main(rt: HostRuntime) -> io::Result<()> {
 
 /// Carries out the lines of the file, one after another. One that asks for nothing that there is says so.
 fn play_all(
-    rt: &(impl Files<File: FileExt + Hold + Seek> + Print + AllocGlobal),
+    rt: &(impl Files<File: HostCalls> + Print + AllocGlobal),
     standard_error: Stderr,
 ) -> io::Result<()> {
     let text = fs::read_to_string(rt, "commands")?;

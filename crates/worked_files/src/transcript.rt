@@ -1,12 +1,11 @@
 //! The lines of a transcript: what each does, and what it answers.
 use cell_types::NoMemory;
-use host_files::Hold;
+use host_files::HostCalls;
 use host_ports::{MemorySink, MemorySource};
 use program::carry_out;
 use std::alloc::{AllocError, Global};
 use std::fs;
 use std::io::{self, ErrorKind, Seek, Stderr, Write};
-use std::os::unix::fs::FileExt;
 use std::rt::Files;
 
 /// Room for what a command puts out, in bytes.
@@ -41,7 +40,7 @@ impl From<NoMemory> for Stop {
 
 /// Carries out a line, and prints what it answers.
 pub fn play(
-    rt: &(impl Files<File: FileExt + Hold + Seek> + Print + AllocGlobal),
+    rt: &(impl Files<File: HostCalls> + Print + AllocGlobal),
     line: &str,
     standard_error: Stderr,
 ) -> Result<(), Stop> {
@@ -84,7 +83,7 @@ fn set_byte(rt: &(impl Files + AllocGlobal), rest: &str) -> Result<(), Stop> {
 /// A command of the program. Its input comes from the file behind `<`, if there is one, and its output goes into the file
 /// behind `>`, or is printed. Where it is not done, the line that says why is printed, with the status.
 fn run_program(
-    rt: &(impl Files<File: FileExt + Hold + Seek> + Print + AllocGlobal),
+    rt: &(impl Files<File: HostCalls> + Print + AllocGlobal),
     rest: &str,
     standard_error: Stderr,
 ) -> Result<(), Stop> {

@@ -33,12 +33,11 @@
 //! words that are no command, 5 a file that cannot be opened, and every other is that of `run`'s refusal.
 #![tactic(auto)]
 
-use host_files::Hold;
+use host_files::HostCalls;
 use host_ports::{StdSink, StdSource};
 use program::carry_out;
 use program_host::{Fault, words};
-use std::io::{self, Seek, Stderr};
-use std::os::unix::fs::FileExt;
+use std::io::{self, Stderr};
 use std::process::ExitCode;
 use std::rt::{Env, Files};
 
@@ -55,7 +54,7 @@ fn main(rt: HostRuntime) -> ExitCode {
 
 /// Carries out what the program's words ask for, with standard input and standard output.
 fn begin(
-    rt: &(impl Env + Files<File: FileExt + Hold + Seek> + Input + Print + AllocGlobal),
+    rt: &(impl Env + Files<File: HostCalls> + Input + Print + AllocGlobal),
     standard_error: Stderr,
 ) -> Result<(), Fault> {
     let words = words(rt)?;
