@@ -30,6 +30,7 @@ mod cached;
 mod cell_cache;
 mod kept;
 mod reads;
+mod recent;
 
 pub use cached::Cached;
 pub use cell_cache::CellCache;
