@@ -6,7 +6,7 @@ use Rattle.std.specs.Map.{lookup}
 use Rattle.lru.proofs.CallerLemmas.{Contains-lookup}
 use Rattle.lru.specs.LruCache.{LruCache}
 use Rattle.worm_device.specs.Views.{ViewState}
-use Rattle.read_cache.specs.Keeping.{HasKept, HasNoOtherRecent, HasRecent, KeepsCells, KeepsOneMore, PutsEntry, forgotten, held_cell, kept_in, no_cell, or_else, place_of, recent_in}
+use Rattle.read_cache.specs.Keeping.{HasKept, HasNoOther, HasRecent, KeepsCells, KeepsOneMore, PutsEntry, cell_at, forgotten, held_cell, kept_in, no_cell, or_else, place_of, recent_in}
 use Rattle.read_cache.specs.declared.cell_cache.CellCache.{CellCache}
 use Rattle.read_cache.specs.declared.recent.Recent.{Recent}
 
@@ -26,7 +26,7 @@ recent_has recent at cell found = of_place (slice_get recent (place_of at)) refl
     none_some : None ≡ Some cell → ⊥
     none_some e = cc
 
-  of_place : (o : Option Recent) → slice_get recent (place_of at) ≡ o → held_cell at o ≡ Some cell
+  of_place : (o : Option Recent) → slice_get recent (place_of at) ≡ o → cell_at at o ≡ Some cell
       → HasRecent recent at cell
   of_place None there is = absurd (none_some is) where
     none_some : None ≡ Some cell → ⊥
@@ -67,20 +67,6 @@ set_has recent k now at cell has = each_set {P = λ f. f.at ≡ at → f.cell �
     (λ i f there number is. inl (record { place = i; held = f; there = there; number_is = number; cell_is = is }))
     (λ number is. inr (number, is)) has.place has.held has.there has.number_is has.cell_is
 
--- a cell that is counted once more is there as it was
-pub counts_one : (recent : List Recent) (k : ℕ) (held now : Recent) → slice_get recent k ≡ Some held → now.at ≡ held.at
-    → now.cell ≡ held.cell → HasNoOtherRecent recent (slice_set recent k now)
-counts_one recent k held now there number same at cell has = ⊎_elim
-    (λ was. was)
-    (λ (is : (now.at ≡ at) × (now.cell ≡ Some cell)). record {
-      place = k;
-      held = held;
-      there = there;
-      number_is = sym number ∙ is.0;
-      cell_is = sym same ∙ is.1;
-    })
-    (set_has recent k now at cell has)
-
 -- where no cell was put yet, none is there
 pub none_recent : (n : ℕ) (at : ℕ) (cell : List ℕ)
     → HasRecent (replicate n no_cell) at cell → ⊥
@@ -111,22 +97,52 @@ places_one places c k at value now number is cell found has = ⊎_elim
       some_is : Some found ≡ Some value → found ≡ value
       some_is e = cc
 
--- a cell is put at a place, and the one that it takes the place of behind it
-pub moves_one : (places : ℕ) (c : CellCache) (k at : ℕ) (value : List ℕ) (left now : Recent) (known : List ℕ)
-    (cells : LruCache ℕ (List ℕ)) → slice_get c.recent k ≡ Some left → left.cell ≡ Some known → now.at ≡ at
-    → now.cell ≡ Some value → PutsEntry left.at known c.cells.entries cells.entries
-    → KeepsOneMore at value c (record { places = places; recent = slice_set c.recent k now; cells = cells })
-moves_one places c k at value left now known cells there held number is puts cell found has = ⊎_elim
-    (λ recent. places_one places c k at value now number is cell found (inl recent))
-    (λ entry. ⊎_elim (λ was. inl (inr was))
-    (λ (put : (cell ≡ left.at) × (found ≡ known)). inl (inl (record {
+-- what a place has under a number is its cell, and that its number
+held_is : (at : ℕ) (held : Recent) (value : List ℕ) → held_cell at held ≡ Some value
+    → (held.at ≡ at) × (held.cell ≡ Some value)
+held_is at held value is = of (nat_eq held.at at) refl is where
+  of : (b : Bool) → nat_eq held.at at ≡ b → (if b then held.cell else None) ≡ Some value
+      → (held.at ≡ at) × (held.cell ≡ Some value)
+  of true same is = (eqb-true held.at at same, is)
+  of false same is = absurd (none_some is) where
+    none_some : None ≡ Some value → ⊥
+    none_some e = cc
+
+-- what its place has is what is kept of it
+pub found_recent : (cache : CellCache) (at place : ℕ) (held : Recent) (value : List ℕ) → place ≡ place_of at
+    → slice_get cache.recent place ≡ Some held → held_cell at held ≡ Some value → Some value ≡ kept_in cache at
+found_recent cache at place held value is there found =
+    let behind = lookup (nat_eq at) cache.cells.entries in
+    subst (λ (o : Option Recent). Some value ≡ or_else (cell_at at o) behind)
+    (sym there ∙ ap (λ (k : ℕ). slice_get cache.recent k) is)
+    (subst (λ (o : Option (List ℕ)). Some value ≡ or_else o behind) (sym found) refl)
+
+-- A cell that is at its place is counted there, and may be put behind the places: nothing is kept that was not.
+pub asks_one : (places : ℕ) (c : CellCache) (k at : ℕ) (held now : Recent) (value : List ℕ)
+    (cells : LruCache ℕ (List ℕ)) → slice_get c.recent k ≡ Some held → held_cell at held ≡ Some value → now.at ≡ at
+    → now.cell ≡ held.cell → PutsEntry at value c.cells.entries cells.entries
+    → HasNoOther c (record { places = places; recent = slice_set c.recent k now; cells = cells })
+asks_one places c k at held now value cells there found number same puts n cell has =
+    let is = held_is at held value found in
+    ⊎_elim
+    (λ recent. ⊎_elim (λ was. inl was)
+    (λ (put : (now.at ≡ n) × (now.cell ≡ Some cell)). inl (record {
       place = k;
-      held = left;
+      held = held;
       there = there;
-      number_is = sym put.0;
-      cell_is = held ∙ ap (λ (v : List ℕ). Some v) (sym put.1);
-    })))
-    (puts cell found entry)) has
+      number_is = is.0 ∙ sym number ∙ put.0;
+      cell_is = sym same ∙ put.1;
+    }))
+    (set_has c.recent k now n cell recent))
+    (λ entry. ⊎_elim (λ was. inr was)
+    (λ (put : (n ≡ at) × (cell ≡ value)). inl (record {
+      place = k;
+      held = held;
+      there = there;
+      number_is = is.0 ∙ sym put.0;
+      cell_is = is.1 ∙ ap (λ (v : List ℕ). Some v) (sym put.1);
+    }))
+    (puts n cell entry)) has
 
 -- memory with no cell keeps none that is not shown
 pub keeps_none : (s : ViewState) (cache : CellCache) → KeepsCells s (forgotten cache)

@@ -16,13 +16,17 @@ abbrev pub place_of : ℕ → ℕ
 place_of at = (at % 256 + at / 256) % 128
 
 -- what a place has under a number
-abbrev pub held_cell : ℕ → Option Recent → Option (List ℕ)
-held_cell at None = None
-held_cell at (Some held) = if nat_eq held.at at then held.cell else None
+abbrev pub held_cell : ℕ → Recent → Option (List ℕ)
+held_cell at held = if nat_eq held.at at then held.cell else None
+
+-- the same of a place that may be there
+abbrev pub cell_at : ℕ → Option Recent → Option (List ℕ)
+cell_at at None = None
+cell_at at (Some held) = held_cell at held
 
 -- the cell of a number among those that were read lately
 abbrev pub recent_in : List Recent → ℕ → Option (List ℕ)
-recent_in recent at = held_cell at (slice_get recent (place_of at))
+recent_in recent at = cell_at at (slice_get recent (place_of at))
 
 -- the first of two, or the other where there is none
 abbrev pub or_else : Option (List ℕ) → Option (List ℕ) → Option (List ℕ)
@@ -65,10 +69,6 @@ KeepsCells s cache =
 -- a holder carries a fact of which there is one proof at most
 pub keeps_cells_prop : (s : ViewState) (cache : CellCache) → IsProp (KeepsCells s cache)
 keeps_cells_prop s cache = Prim.hlevel props
-
--- no place has a cell that none had
-abbrev pub HasNoOtherRecent : List Recent → List Recent → Type 0
-HasNoOtherRecent old new = (at : ℕ) (cell : List ℕ) → HasRecent new at cell → HasRecent old at cell
 
 -- no cell is there behind the places that was not
 abbrev pub HasNoOtherEntry : List (ℕ × List ℕ) → List (ℕ × List ℕ) → Type 0

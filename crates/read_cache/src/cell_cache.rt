@@ -1,12 +1,12 @@
 //! The memory of kept cells.
 use crate::kept::{keep, kept_cell};
-use crate::recent::{PLACES, Recent, no_cells, place_of, recent_cell};
+use crate::recent::{PLACES, Recent, cell_of, no_cells, place_of};
 use cell_types::{Cell, NoMemory, memory};
 use lru::LruCache;
 use std::alloc::Global;
 use std::num::NonZeroUsize;
 
-/// How often a cell has to be asked for again to be kept when its place is wanted.
+/// How often a cell is asked for again before it is kept behind the places.
 const OFTEN: u8 = 64;
 
 /// Memory for cells of a view, by their numbers. It is lent to one view after another, and each begins with none.
@@ -54,18 +54,29 @@ impl CellCache {
         self.cells.clear();
     }
 
-    /// The kept cell of this number.
+    /// The kept cell of this number. One that is asked for often is kept behind the places as well, where it stays when
+    /// another cell takes its place.
     pub(crate) fn kept(&mut self, at: u32) -> Option<Cell>
         ensures found { result ≡ kept_in self.old at }
         ensures others { HasNoOther self.old self.new }
     {
-        if let Some(cell) = recent_cell(&mut self.recent, at) {
-            return Some(cell);
+        let place = place_of(at);
+        let held = self.recent[place];
+        let Some(cell) = cell_of(&held, at) else {
+            return kept_cell(&mut self.cells, at);
+        };
+        self.recent[place] = Recent {
+            at,
+            cell: held.cell,
+            asked: held.asked.saturating_add(1),
+        };
+        if held.asked == OFTEN {
+            keep(&mut self.cells, at, cell);
         }
-        kept_cell(&mut self.cells, at)
+        Some(cell)
     }
 
-    /// Keeps a cell under its number. What its place held before is kept behind it, if it was asked for often.
+    /// Keeps a cell under its number.
     pub(crate) fn keep(&mut self, at: u32, cell: Cell)
         ensures { KeepsOneMore at cell self.old self.new }
     {
@@ -74,17 +85,10 @@ impl CellCache {
             return;
         }
         let place = place_of(at);
-        let left = self.recent[place];
         self.recent[place] = Recent {
             at,
             cell: Some(cell),
             asked: 0,
         };
-        if left.asked < OFTEN {
-            return;
-        }
-        if let Some(known) = left.cell {
-            keep(&mut self.cells, left.at, known);
-        }
     }
 }

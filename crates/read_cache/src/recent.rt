@@ -1,6 +1,6 @@
 //! Cells that were read lately, each at a place by its number.
 ghost use Rattle.std.specs.Prelude.{◌≡◌, ◌<◌, replicate};
-ghost use Rattle.read_cache.specs.Keeping.{HasNoOtherRecent, no_cell, place_of, recent_in};
+ghost use Rattle.read_cache.specs.Keeping.{held_cell, no_cell, place_of};
 
 use cell_types::Cell;
 
@@ -38,20 +38,12 @@ pub(crate) fn place_of(at: u32) -> usize
     (at % 256 + at / 256) as usize % PLACES
 }
 
-/// The cell of this number, if it is at its place, which counts that it was asked for.
-pub(crate) fn recent_cell(recent: &mut [Recent; PLACES], at: u32) -> Option<Cell>
-    ensures found { result ≡ recent_in recent.old at }
-    ensures others { HasNoOtherRecent recent.old recent.new }
+/// The cell of a place, if it has this number.
+pub(crate) fn cell_of(held: &Recent, at: u32) -> Option<Cell>
+    ensures { result ≡ held_cell at held.now }
 {
-    let place = place_of(at);
-    let held = recent[place];
     if held.at != at {
         return None;
     }
-    recent[place] = Recent {
-        at,
-        cell: held.cell,
-        asked: held.asked.saturating_add(1),
-    };
     held.cell
 }
