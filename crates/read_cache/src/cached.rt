@@ -4,8 +4,8 @@ ghost use Rattle.read_cache.specs.Keeping.{KeepsCells, keeps_cells_prop};
 use crate::CellCache;
 use worm_device::View;
 
-/// What another view shows. Written cells that were read one at a time are kept, as many as there is memory for. The view
-/// and the memory are lent to it.
+/// What another view shows. Written cells that were read one at a time are kept, as many as there is memory for.
+/// The view and the memory are lent to it.
 #[derive(Drop)]
 pub struct Cached<'a, V: View> {
     pub view: &'a mut V,

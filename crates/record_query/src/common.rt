@@ -15,8 +15,8 @@ use worm_device::{Device, Direct, View};
 /// How many cells of lists and slots a find keeps at most.
 const KEPT_CELLS: u32 = 4_096;
 
-/// All slots that all terms have, by rising slot. Cells that are read one at a time are kept, so that most of them are read
-/// on the device once.
+/// All slots that all terms have, by rising slot. Cells that are read one at a time are kept, so that most of them
+/// are read on the device once.
 pub(crate) fn common_slots<D: Device>(
     alloc: Global,
     device: &mut D,

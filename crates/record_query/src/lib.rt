@@ -25,9 +25,9 @@
 //! `hello` and `world` above have lists of their own. Then `find hello world` has T 2, Near 1 and one
 //! candidate of one cell: at most 196,868 reads, however many documents there are.
 //!
-//! A look-up follows the path of the identifier alone. It checks the whole document before its first byte
-//! goes out, and takes no memory; `locate` puts nothing out. On a settled volume it makes at most 1,024 reads, and two more for each
-//! cell of a document whose bucket on that path has the fingerprint of the identifier.
+//! A look-up follows the path of the identifier alone. It checks the whole document before its first byte goes out,
+//! and takes no memory; `locate` puts nothing out. On a settled volume it makes at most 1,024 reads, and two more
+//! for each cell of a document whose bucket on that path has the fingerprint of the identifier.
 //!
 //! Lists and slots are read by way of 4,096 kept cells: one that is read by itself, for a second word or in
 //! a later search, is mostly answered from memory. Documents are read past them.
