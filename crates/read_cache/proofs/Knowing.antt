@@ -2,18 +2,19 @@
 use Rattle.std.specs.Result.{OnErr, OnOk}
 use Rattle.std.proofs.Common.{◌≡◌, ℕ, List, Option, Some, Result, Ok, Err, IsTrue, nat_eq, ap, subst, sym, inl, inr, ⊎_elim, ◌∙◌}
 use Rattle.std.proofs.lemmas.Bool.{eqb-true}
-use Rattle.std.specs.Map.{lookup}
 use Rattle.lru.specs.LruCache.{LruCache, lru_cache, promoted, put_entries}
-use Rattle.lru.proofs.CallerLemmas.{Contains-lookup, Contains-promoted, Contains-put_entries}
+use Rattle.lru.proofs.CallerLemmas.{Contains-promoted, Contains-put_entries}
 use Rattle.worm_device.specs.Views.{ViewState, Viewed}
-use Rattle.read_cache.specs.Keeping.{HasNoOther, KeepsOneMore, KeepsCells}
+use Rattle.read_cache.specs.Keeping.{HasNoOther, HasNoOtherEntry, KeepsOneMore, KeepsCells, PutsEntry, kept_in}
+use Rattle.read_cache.specs.declared.cell_cache.CellCache.{CellCache}
+use Rattle.read_cache.proofs.Recently.{kept_has}
 
 -- a look-up changes the order alone
-pub no_other : (kept : List (ℕ × List ℕ)) (at : ℕ) → HasNoOther kept (promoted (nat_eq at) kept)
+pub no_other : (kept : List (ℕ × List ℕ)) (at : ℕ) → HasNoOtherEntry kept (promoted (nat_eq at) kept)
 no_other kept at cell value there = Contains-promoted (nat_eq at) kept (cell, value) there
 
 -- a put may push others out
-pub one_more : (c : LruCache ℕ (List ℕ)) (at : ℕ) (value : List ℕ) → KeepsOneMore at value c.entries (put_entries nat_eq c at value)
+pub one_more : (c : LruCache ℕ (List ℕ)) (at : ℕ) (value : List ℕ) → PutsEntry at value c.entries (put_entries nat_eq c at value)
 one_more c at value cell found there = ⊎_elim
     (λ was. inl was)
     (λ put. inr (⊎_elim
@@ -22,7 +23,7 @@ one_more c at value cell found there = ⊎_elim
     put.1))
     (Contains-put_entries nat_eq c at value (cell, found) there)
 
-module _ (s t : ViewState) (old new : List (ℕ × List ℕ)) where
+module _ (s t : ViewState) (old new : CellCache) where
   -- what is shown goes on, and so what is known of kept cells
   pub keeps_on : Viewed s t → KeepsCells s old → HasNoOther old new → KeepsCells t new
   keeps_on viewed kept others tells at cell there =
@@ -39,18 +40,15 @@ module _ (s t : ViewState) (old new : List (ℕ × List ℕ)) where
       (more cell found there)
 
 -- a kept cell that was looked up is shown
-pub kept_stands : (s : ViewState) (kept : List (ℕ × List ℕ)) (at : ℕ) (cell : List ℕ) → KeepsCells s kept
-    → Some cell ≡ lookup (nat_eq at) kept → IsTrue s.base.tells → Some cell ≡ s.image at
-kept_stands s kept at cell known found tells =
-    let there = Contains-lookup (nat_eq at) kept cell (sym found) in
-    let same : at ≡ there.0 = eqb-true at there.0 there.2 in
-    sym (ap s.image same ∙ known tells there.0 cell there.1)
+pub kept_stands : (s : ViewState) (cache : CellCache) (at : ℕ) (cell : List ℕ) → KeepsCells s cache
+    → Some cell ≡ kept_in cache at → IsTrue s.base.tells → Some cell ≡ s.image at
+kept_stands s cache at cell known found tells = sym (known tells at cell (kept_has cache at cell (sym found)))
 
 -- a put, with memory or without
 pub after_put : {E : Type 0} (c now : LruCache ℕ (List ℕ)) (at : ℕ) (value : List ℕ) (result : Result (Option (List ℕ)) E)
     → OnOk result (now ≡ lru_cache (put_entries nat_eq c at value) c.cap) → OnErr result (now ≡ c)
-    → KeepsOneMore at value c.entries now.entries
+    → PutsEntry at value c.entries now.entries
 after_put c now at value (Ok was) put none =
-    subst (λ (d : LruCache ℕ (List ℕ)). KeepsOneMore at value c.entries d.entries) (sym put) (one_more c at value)
+    subst (λ (d : LruCache ℕ (List ℕ)). PutsEntry at value c.entries d.entries) (sym put) (one_more c at value)
 after_put c now at value (Err failed) put none =
-    subst (λ (d : LruCache ℕ (List ℕ)). KeepsOneMore at value c.entries d.entries) (sym none) (λ cell found there. inl there)
+    subst (λ (d : LruCache ℕ (List ℕ)). PutsEntry at value c.entries d.entries) (sym none) (λ cell found there. inl there)

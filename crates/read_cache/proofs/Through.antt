@@ -1,5 +1,7 @@
 -- What every read keeps, of a view and of the same view by way of a loan.
 use Rattle.std.proofs.Common.{◌≡◌, ℕ, List, Option, Some, Result, Ok, IsTrue, refl, arith}
+use Rattle.worm_device.specs.ReadBytes.{ViewReadsBytes}
+use Rattle.worm_device.specs.ReadRows.{ViewReadsRow}
 use Rattle.worm_device.specs.Views.{ViewReads, ViewState, Viewed}
 use Rattle.worm_device.proofs.Resting.{rested_since, rests_of, viewed_self}
 use Rattle.worm_device.specs.declared.device.Failed.{Failed}
@@ -55,6 +57,30 @@ pub reads_through : (loan at : ℕ) (s t : ViewState) (result : Result (Option (
     → ViewReads at (seen_through loan s) (seen_through loan t) result
 reads_through loan at s t result read = record {
   viewed = viewed_through loan loan s t refl read.viewed;
+  answer = read.answer;
+  cause = read.cause;
+  count = read.count;
+}
+
+-- so is a row
+pub row_through : (loan at : ℕ) (room found : List (Option (List ℕ))) (s t : ViewState) (result : Result Unit Failed)
+    → ViewReadsRow at room found s t result
+    → ViewReadsRow at room found (seen_through loan s) (seen_through loan t) result
+row_through loan at room found s t result read = record {
+  viewed = viewed_through loan loan s t refl read.viewed;
+  size = read.size;
+  answer = read.answer;
+  cause = read.cause;
+  count = read.count;
+}
+
+-- and so are its bytes
+pub bytes_through : (loan at : ℕ) (room bytes : List ℕ) (s t : ViewState) (result : Result Unit Failed)
+    → ViewReadsBytes at room bytes s t result
+    → ViewReadsBytes at room bytes (seen_through loan s) (seen_through loan t) result
+bytes_through loan at room bytes s t result read = record {
+  viewed = viewed_through loan loan s t refl read.viewed;
+  size = read.size;
   answer = read.answer;
   cause = read.cause;
   count = read.count;

@@ -4,13 +4,13 @@ ghost use Rattle.read_cache.specs.Keeping.{KeepsCells, keeps_cells_prop};
 use crate::CellCache;
 use worm_device::View;
 
-/// What another view shows. Written cells that were read are kept, as many as there is memory for. The view and the
-/// memory are lent to it.
+/// What another view shows. Written cells that were read one at a time are kept, as many as there is memory for.
+/// The view and the memory are lent to it.
 #[derive(Drop)]
 pub struct Cached<'a, V: View> {
     pub view: &'a mut V,
     pub cache: &'a mut CellCache,
-    ghost kept: { KeepsCells (V.seen view.now) cache.now.cells.entries } by { keeps_cells_prop (V.seen view.now) cache.now.cells.entries },
+    ghost kept: { KeepsCells (V.seen view.now) cache.now } by { keeps_cells_prop (V.seen view.now) cache.now },
 }
 
 impl<'a, V: View> Cached<'a, V> {
@@ -24,7 +24,7 @@ impl<'a, V: View> Cached<'a, V> {
         ensures most { most_kept result.cache.now ≡ most_kept cache.old }
     {
         // Cells that are still there may be those of another view.
-        cache.cells.clear();
+        cache.forget();
         Cached { view, cache }
     }
 }

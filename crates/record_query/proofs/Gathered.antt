@@ -6,6 +6,7 @@ use Rattle.cell_types.specs.declared.refusal.Refusal.{Refusal}
 use Rattle.cell_types.specs.declared.refusal.Refusal.TheVariants as refusals
 use Rattle.worm_device.specs.State.{DeviceState}
 use Rattle.worm_device.specs.Views.{ViewState, seen_directly}
+use Rattle.read_cache.specs.Keeping.{seen_through}
 use Rattle.zigzag_join.specs.Joins.{AllOwe}
 use Rattle.posting_list.specs.Joins.{TermsGather, TermsGatherReads}
 use Rattle.posting_list.specs.Naming.{IsShownEvidence}
@@ -59,6 +60,51 @@ module _ (r : Reach) (terms : List SoughtTerm) (old new : DeviceState) (a b : �
   pub reads_by_any : TermsGatherReads r terms (seen_directly old a) (seen_directly new b)
       → TermsGatherReads r terms (seen_directly old 0) (seen_directly new 0)
   reads_by_any g = record { reads = g.reads }
+
+-- Nor do those that were gathered by way of kept cells speak of that loan.
+module _ (r : Reach) (terms : List SoughtTerm) (old new : ViewState) (a b : ℕ) where
+  owes_below : (which slot : ℕ) → Owes r terms old which slot → Owes r terms (seen_through a old) which slot
+  owes_below which slot o = record {
+    term = o.term;
+    there = o.there;
+    owed = record {
+      tells = o.owed.tells;
+      volume = o.owed.volume;
+      list = o.owed.list;
+      body = o.owed.body;
+      postings = o.owed.postings;
+      tagged = o.owed.tagged;
+      trails = o.owed.trails;
+    };
+  }
+
+  all_owe_below : (slot : ℕ) → AllOwe (lists_over r terms 0 old) slot
+      → AllOwe (lists_over r terms 0 (seen_through a old)) slot
+  all_owe_below slot owe which less = owes_below which slot (owe which less)
+
+  shown_below : (e : Evidence) → IsShownEvidence r (seen_through b new) e → IsShownEvidence r new e
+  shown_below e s = record { stands = s.stands; broken = s.broken }
+
+  pub gathers_below : (result : Result (Vec ℕ) Refusal)
+      → TermsGather r terms (seen_through a old) (seen_through b new) result → TermsGather r terms old new result
+  gathers_below (Ok slots) g = record {
+    ends = record {
+      all = λ slot owe small. g.ends.all slot (all_owe_below slot owe) small;
+      vouched = g.ends.vouched;
+      live = g.ends.live;
+      rise = g.ends.rise;
+    };
+  }
+  gathers_below (Err refusals.DeviceFault) g = record { ends = g.ends }
+  gathers_below (Err (refusals.Tampered e)) g = record {
+    ends = (g.ends.0, λ still tells. shown_below e (g.ends.1 still tells));
+  }
+  gathers_below (Err refusals.NoMemory) g = record { ends = tt }
+  gathers_below (Err refusal) g = absurd g.ends
+
+  pub reads_below : TermsGatherReads r terms (seen_through a old) (seen_through b new)
+      → TermsGatherReads r terms old new
+  reads_below g = record { reads = g.reads }
 
 -- the same where the views at entry and at exit are said in another way
 pub gathers_then : {r : Reach} {terms : List SoughtTerm} {old was new now : ViewState} {result : Result (Vec ℕ) Refusal}

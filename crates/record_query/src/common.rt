@@ -7,11 +7,16 @@ ghost use Rattle.record_query.specs.Reaching.{reach_of};
 use cell_types::{Refusal, Volume};
 use jump_index::Bounds;
 use posting_list::{SoughtTerms, TermLists};
+use read_cache::{Cached, CellCache};
 use recovery_engine::Ready;
 use std::alloc::Global;
 use worm_device::{Device, Direct, View};
 
-/// All slots that all terms have, by rising slot.
+/// How many cells of lists and slots a find keeps at most.
+const KEPT_CELLS: u32 = 4_096;
+
+/// All slots that all terms have, by rising slot. Cells that are read one at a time are kept, so that most of them
+/// are read on the device once.
 pub(crate) fn common_slots<D: Device>(
     alloc: Global,
     device: &mut D,
@@ -29,11 +34,40 @@ pub(crate) fn common_slots<D: Device>(
         pool: ready.volume.geometry.pool_at(),
         edge: ready.edge,
     };
-    common_in(
+    let mut cache = CellCache::new(alloc, KEPT_CELLS)?;
+    common_kept(
         alloc,
         &mut Direct::new(device),
+        &mut cache,
         ready.volume,
         ready.horizon,
+        bounds,
+        sought,
+    )
+}
+
+/// The same over any view, by way of kept cells.
+fn common_kept<V: View>(
+    alloc: Global,
+    view: &mut V,
+    cache: &mut CellCache,
+    volume: Volume,
+    horizon: u32,
+    bounds: Bounds,
+    sought: &SoughtTerms,
+) -> Result<Vec<u32>, Refusal>
+    requires some { 1 ≤ length sought.now.terms.items }
+    ensures viewed { Viewed (V.seen view.old) (V.seen view.new) }
+    ensures gathers { TermsGather (record { volume = volume; horizon = horizon; bounds = bounds })
+        sought.now.terms.items (V.seen view.old) (V.seen view.new) result }
+    ensures reads { TermsGatherReads (record { volume = volume; horizon = horizon; bounds = bounds })
+        sought.now.terms.items (V.seen view.old) (V.seen view.new) }
+{
+    common_in(
+        alloc,
+        &mut Cached::new(view, cache),
+        volume,
+        horizon,
         bounds,
         sought,
     )

@@ -25,14 +25,17 @@
 //! `hello` and `world` above have lists of their own. Then `find hello world` has T 2, Near 1 and one
 //! candidate of one cell: at most 196,868 reads, however many documents there are.
 //!
-//! A look-up follows the path of the identifier alone. It checks the whole document before its first byte
-//! goes out, and takes no memory; `locate` puts nothing out. On a settled volume it makes at most 1,024 reads, and two more for each
-//! cell of a document whose bucket on that path has the fingerprint of the identifier.
+//! A look-up follows the path of the identifier alone. It checks the whole document before its first byte goes out,
+//! and takes no memory; `locate` puts nothing out. On a settled volume it makes at most 1,024 reads, and two more
+//! for each cell of a document whose bucket on that path has the fingerprint of the identifier.
 //!
-//! Stands on `posting_list`, which finds the slots that words have in common; `identifier_lookup`, which
-//! follows the path; `document_store`, which reads documents; and `word_reader`, which finds words. Begin
-//! with `finding.rt` and `looking_up.rt`. `specs/Finding.antt` and `specs/LookingUp.antt` say how each may
-//! end, and why.
+//! Lists and slots are read by way of 4,096 kept cells: one that is read by itself, for a second word or in
+//! a later search, is mostly answered from memory. Documents are read past them.
+//!
+//! Stands on `posting_list`, which finds the slots that words have in common; `read_cache`, which keeps
+//! cells; `identifier_lookup`, which follows the path; `document_store`, which reads documents; and
+//! `word_reader`, which finds words. Begin with `finding.rt` and `looking_up.rt`. `specs/Finding.antt` and
+//! `specs/LookingUp.antt` say how each may end, and why.
 #![tactic(auto)]
 
 mod common;

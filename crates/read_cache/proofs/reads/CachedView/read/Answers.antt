@@ -8,21 +8,21 @@ use Rattle.read_cache.proofs.reads.CachedView.read.Goals as goal
 pub invariant_of-self : goal.invariant_of-self
 invariant_of-self g c = record {
   kept = keeps_on (g.V.View.seen c.args.self.now.view.now) (g.V.View.seen c.args.self.now.view.now)
-      c.args.self.now.cache.now.cells.entries c.kept_cell.new.cells.entries (viewed_self _) c.args.self.now.kept
-      c.kept_cell.ensures.others;
+      c.args.self.now.cache.now c.kept.new.self (viewed_self _) c.args.self.now.kept
+      c.kept.ensures.others;
 }
 
 pub returns-in-Some-clause-reads : goal.returns-in-Some-clause-reads
 returns-in-Some-clause-reads g c = reads_kept c.args.self.now.view.ghost_name c.args.at c.in-Some.cell
     (g.V.View.seen c.args.self.now.view.now)
-    (kept_stands (g.V.View.seen c.args.self.now.view.now) c.args.self.now.cache.now.cells.entries c.args.at c.in-Some.cell
+    (kept_stands (g.V.View.seen c.args.self.now.view.now) c.args.self.now.cache.now c.args.at c.in-Some.cell
     c.args.self.now.kept c.in-Some.ensures.found)
 
 pub invariant_of-self-in-Break-1 : goal.invariant_of-self-in-Break-1
 invariant_of-self-in-Break-1 g c = record {
   kept = keeps_on (g.V.View.seen c.args.self.now.view.now) (g.V.View.seen c.read.new.self)
-      c.args.self.now.cache.now.cells.entries c.kept_cell.new.cells.entries c.read.ensures.viewed c.args.self.now.kept
-      c.kept_cell.ensures.others;
+      c.args.self.now.cache.now c.kept.new.self c.read.ensures.viewed c.args.self.now.kept
+      c.kept.ensures.others;
 }
 
 pub returns-in_err-cell-clause-reads : goal.returns-in_err-cell-clause-reads
@@ -34,8 +34,8 @@ returns-in_err-cell-clause-reads g c =
 pub invariant_of-self-in_default-2 : goal.invariant_of-self-in_default-2
 invariant_of-self-in_default-2 g c = record {
   kept = keeps_on (g.V.View.seen c.args.self.now.view.now) (g.V.View.seen c.read.new.self)
-      c.args.self.now.cache.now.cells.entries c.kept_cell.new.cells.entries c.read.ensures.viewed c.args.self.now.kept
-      c.kept_cell.ensures.others;
+      c.args.self.now.cache.now c.kept.new.self c.read.ensures.viewed c.args.self.now.kept
+      c.kept.ensures.others;
 }
 
 pub returns-in_default-2-clause-reads : goal.returns-in_default-2-clause-reads
@@ -46,10 +46,10 @@ returns-in_default-2-clause-reads g c = reads_through c.args.self.now.view.ghost
 pub invariant_of-self-2 : goal.invariant_of-self-2
 invariant_of-self-2 g c = record {
   kept = keeps_more (g.V.View.seen c.args.self.now.view.now) (g.V.View.seen c.read.new.self)
-      c.kept_cell.new.cells.entries c.keep.new.cells.entries c.args.at c.in-Some-2.cell c.read.ensures.viewed
+      c.kept.new.self c.keep.new.self c.args.at c.in-Some-2.cell c.read.ensures.viewed
       (keeps_on (g.V.View.seen c.args.self.now.view.now) (g.V.View.seen c.args.self.now.view.now)
-      c.args.self.now.cache.now.cells.entries c.kept_cell.new.cells.entries (viewed_self _) c.args.self.now.kept
-      c.kept_cell.ensures.others)
+      c.args.self.now.cache.now c.kept.new.self (viewed_self _) c.args.self.now.kept
+      c.kept.ensures.others)
       (read_shows c.args.at (g.V.View.seen c.args.self.now.view.now) (g.V.View.seen c.read.new.self) c.in-Some-2.cell
       (rw (← c.in-Some-2.is) (rw c.in_ok-cell.was at c.read.ensures))) c.keep.ensures;
 }
