@@ -10,9 +10,7 @@ ghost use Rattle.ingest_engine.specs.Stamps.{AddsStamps, IsStampUpTo, PastLast, 
 ghost use Rattle.ingest_engine.specs.declared.stamps.TheConstants.{ROW_SLOTS};
 
 use cell_types::{Cell, Fault, Geometry, Refusal, Volume};
-use commit_record::{
-    SLOT_BYTES, SlotState, cells_of_slot, done_stamp, slot_of_row, stamp_of_row,
-};
+use commit_record::{SLOT_BYTES, SlotState, cells_of_slot, done_stamp, slot_of_row, stamp_of_row};
 use recovery_engine::Ready;
 use worm_device::{Device, Direct, View};
 
