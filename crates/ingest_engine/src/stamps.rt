@@ -71,8 +71,8 @@ fn greatest_stamp<V: View>(view: &mut V, volume: &Volume, below: u32) -> Result<
     Ok(greatest)
 }
 
-/// The latest of a stamp and those of the done slots among so many, from the first on. The bytes of their cells are read
-/// by one call, into the room that is there for them.
+/// The latest of a stamp and those of the done slots among so many, from the first on. The bytes of their cells are
+/// read by one call, into the room that is there for them.
 fn with_slots<V: View>(
     view: &mut V,
     geometry: &Geometry,
