@@ -1,12 +1,11 @@
 -- What the bytes of a slot's cells tell that were read in one row, as what was found in the cells.
 use Rattle.std.proofs.Common.{◌≡◌, ◌<◌, ◌≤◌, ◌+◌, ◌*◌, ◌⊎◌, ⊎_elim, ◌∙◌, ℕ, zero, suc, List, [], ◌∷◌, Option, None, Some, Ok, ap, arith, drop, length, length-drop, refl, replicate, subst, sym, take}
-use Rattle.std.specs.Prelude.{◌/◌, IsTrue, slice_get, slice_index}
+use Rattle.std.specs.Prelude.{◌/◌, slice_get, slice_index}
 use Rattle.std.proofs.lemmas.Bool.{cases_eq}
 use Rattle.std.proofs.lemmas.List.{drop-drop}
 use Rattle.std.proofs.lemmas.Option.{none-some}
 use Rattle.cell_types.specs.Image.{Image}
-use Rattle.cell_types.specs.Layout.{Layout, reserve_at, spare_at}
-use Rattle.cell_types.specs.Records.{IsRecordCell}
+use Rattle.cell_types.specs.Layout.{Layout, reserve_at}
 use Rattle.cell_types.specs.declared.geometry.TheConstants.{STAMPED_VERSION}
 use Rattle.cell_types.specs.declared.record_cell.RecordCell.TheVariants as records
 use Rattle.worm_device.specs.ReadBytes.{IsReadBetween, cell_bytes}
@@ -52,9 +51,11 @@ bytes_from first place bytes {old} {new} inside reads = record {
   faults = reads.faults;
   read = λ tells at less.
       let within : 4 * place + at < length bytes / 16 = omega (arith, less, length-drop (64 * place) bytes, inside) in
-      let same : cell_bytes bytes (4 * place + at) ≡ cell_bytes (drop (64 * place) bytes) at =
-      ap (λ (k : ℕ). take 16 (drop k bytes)) (omega arith) ∙ ap (take 16) (sym (drop-drop (16 * at) (64 * place) bytes)) in
-      subst (λ (cell : ℕ). IsReadBetween old.image new.image cell (cell_bytes (drop (64 * place) bytes) at)) (omega arith)
+      let rest : List ℕ = drop (64 * place) bytes in
+      let same : cell_bytes bytes (4 * place + at) ≡ cell_bytes rest at =
+      ap (λ (k : ℕ). take 16 (drop k bytes)) (omega arith)
+      ∙ ap (take 16) (sym (drop-drop (16 * at) (64 * place) bytes)) in
+      subst (λ (cell : ℕ). IsReadBetween old.image new.image cell (cell_bytes rest at)) (omega arith)
       (subst (λ (b : List ℕ). IsReadBetween old.image new.image (reserve_at first + (4 * place + at)) b) same
       (reads.read tells (4 * place + at) within));
 }
@@ -63,8 +64,9 @@ inside : (a held : Option (List ℕ)) → ◌≡◌ {A = Option (Option (List �
 inside a held is = cc
 
 -- four cells are the first four of a row
-four_cells : (bytes : List ℕ) (a b c d : Option (List ℕ)) → IsHeldIn a (cell_bytes bytes 0) → IsHeldIn b (cell_bytes bytes 1)
-    → IsHeldIn c (cell_bytes bytes 2) → IsHeldIn d (cell_bytes bytes 3) → (place : ℕ) (held : Option (List ℕ))
+four_cells : (bytes : List ℕ) (a b c d : Option (List ℕ)) → IsHeldIn a (cell_bytes bytes 0)
+    → IsHeldIn b (cell_bytes bytes 1) → IsHeldIn c (cell_bytes bytes 2) → IsHeldIn d (cell_bytes bytes 3)
+    → (place : ℕ) (held : Option (List ℕ))
     → slice_get (a ∷ b ∷ c ∷ d ∷ []) place ≡ Some held → IsHeldIn held (cell_bytes bytes place)
 four_cells bytes a b c d of_a of_b of_c of_d zero held is =
     subst (λ (o : Option (List ℕ)). IsHeldIn o (cell_bytes bytes 0)) (inside a held is) of_a

@@ -5,7 +5,6 @@ use Rattle.std.proofs.Math.Seq.{take-add}
 use Rattle.std.proofs.lemmas.List.{drop-drop, drop-take, get_or-drop, get_or-take, length-drop, take-take}
 use Rattle.byteorder.specs.Endian.{big_bytes}
 use Rattle.cell_types.specs.Layout.{IsLayout, Layout, done_at, outcome_at, reserve_at, spare_at}
-use Rattle.cell_types.specs.declared.geometry.TheConstants.{MAX_SLOTS}
 use Rattle.commit_record.specs.SlotBytes.{IsDoneByBytes, IsFramedAsDone, NamesCells, NamesDocument, NamesStamp}
 
 one_first : (l : List ℕ) (a : ℕ) → 1 ≤ length l → slice_index l 0 ≡ a → take 1 l ≡ a ∷ []
@@ -59,8 +58,8 @@ done_by_bytes g n b count seconds layout less four frame cells document stamp =
       reserve = record {
         fits = (cells.first.small, cells.count.small);
         well_formed = some;
-        same = sixteen b 0 2 (big_bytes 4 cells.start ++ big_bytes 4 count) (replicate 3 0 ++ big_bytes 4 (reserve_at n))
-            (omega (arith, four)) frame.kind (eight b 1 _ _ cells.first.is cells.count.is)
+        same = sixteen b 0 2 (big_bytes 4 cells.start ++ big_bytes 4 count)
+            (replicate 3 0 ++ big_bytes 4 (reserve_at n)) (omega (arith, four)) frame.kind (eight b 1 _ _ cells.first.is cells.count.is)
             (ends b 9 3 (replicate 3 0 ++ big_bytes 4 (reserve_at n)) refl frame.reserve refl);
       };
       outcome = record {
@@ -76,8 +75,8 @@ done_by_bytes g n b count seconds layout less four frame cells document stamp =
         fits = omega (arith, less, layout.slots);
         well_formed = omega (arith, less, layout.slots);
         same = sixteen b 32 5 (big_bytes 4 n ++ replicate 4 0) (replicate 3 0 ++ big_bytes 4 (done_at n))
-            (omega (arith, four)) (next_kind b 25 5 (replicate 3 0 ++ big_bytes 4 (outcome_at n)) refl frame.outcome refl)
-            frame.slot (ends b 41 10 (replicate 3 0 ++ big_bytes 4 (done_at n)) refl frame.done refl);
+            (omega (arith, four))
+            (next_kind b 25 5 (replicate 3 0 ++ big_bytes 4 (outcome_at n)) refl frame.outcome refl) frame.slot (ends b 41 10 (replicate 3 0 ++ big_bytes 4 (done_at n)) refl frame.done refl);
       };
       stamp = record {
         fits = stamp.first.small;

@@ -1,5 +1,5 @@
 -- What the bytes of a slot's cells say, of which a row has sixteen a cell.
-use Rattle.std.specs.Prelude.{◌≡◌, ◌<◌, ◌≤◌, ◌+◌, ◌*◌, ◌/◌, ◌^◌, ℕ, List, [], ◌∷◌, ◌++◌, length, take, drop, replicate, slice_get, slice_index, Option, Some, None, IsTrue}
+use Rattle.std.specs.Prelude.{◌≡◌, ◌<◌, ◌≤◌, ◌+◌, ◌/◌, ◌^◌, ℕ, List, [], ◌∷◌, ◌++◌, length, take, drop, replicate, slice_get, slice_index, Option, Some, None, IsTrue}
 use Rattle.byteorder.specs.Endian.{big_bytes}
 use Rattle.cell_types.specs.Layout.{Layout, reserve_at, outcome_at, done_at, spare_at, pool_at}
 use Rattle.cell_types.specs.Records.{IsRecordCell}
@@ -24,8 +24,8 @@ pub record IsSlotRowOf (bytes : List ℕ) (row : List (Option (List ℕ))) : Typ
   pub four : length row ≡ 4
   pub cells : IsRowOf bytes row
 
--- The first four cells are those of slot n, which is done and has this stamp: its cells lie in the pool, and its document
--- and journal fit into them.
+-- The first four cells are those of slot n, which is done and has this stamp: its cells lie in the pool, and its
+-- document and journal fit into them.
 pub record IsDoneByBytes (g : Layout) (n : ℕ) (bytes : List ℕ) (seconds : ℕ) : Type 0 where
   pub start : ℕ
   pub length : ℕ
@@ -38,8 +38,8 @@ pub record IsDoneByBytes (g : Layout) (n : ℕ) (bytes : List ℕ) (seconds : �
   pub pool : AreOfPool g start length
   pub fits : FitsInto length size journal
 
--- The bytes have what does not change from one slot that is done to another but for its number: the kinds, the numbers of
--- the cells, that of the slot, and the zeros behind them.
+-- The bytes have what does not change from one slot that is done to another but for its number: the kinds, the numbers
+-- of the cells, that of the slot, and the zeros behind them.
 pub record IsFramedAsDone (n : ℕ) (bytes : List ℕ) : Type 0 where
   pub kind : slice_index bytes 0 ≡ 2
   pub reserve : take 8 (drop 9 bytes) ≡ replicate 3 0 ++ big_bytes 4 (reserve_at n) ++ (3 ∷ [])

@@ -1,5 +1,5 @@
-//! A slot by the bytes of its four cells, which are the first of a row. Where it is done they are compared as numbers, and
-//! no cell is decoded.
+//! A slot by the bytes of its four cells, which are the first of a row. Where it is done they are compared as numbers,
+//! and no cell is decoded.
 ghost use Rattle.std.specs.Prelude.{◌≡◌, ◌<◌, ◌≤◌, ◌+◌, ◌*◌, IfSome, IsTrue, drop, length, take};
 ghost use Rattle.byteorder.specs.Endian.{big_bytes};
 ghost use Rattle.cell_types.specs.Layout as layout;
@@ -22,9 +22,9 @@ const DONE: u64 = 5;
 
 const STAMP: u64 = 10;
 
-/// The stamp of a slot that is done, in seconds, by the bytes of its four cells, the first of a row that was read before.
-/// It is `None` where they make another state or none, or hold no stamp. The first cell of the pool comes along, since it
-/// is the same for each slot. Reads nothing.
+/// The stamp of a slot that is done, in seconds, by the bytes of its four cells, the first of a row that was read
+/// before. It is `None` where they make another state or none, or hold no stamp. The first cell of the pool comes along,
+/// since it is the same for each slot. Reads nothing.
 #[inline]
 pub fn done_stamp(geometry: &Geometry, pool_at: u32, slot: u32, bytes: &[u8]) -> Option<u32>
     requires slot { slot < geometry.now.slots }
@@ -67,7 +67,8 @@ fn cell_in(bytes: &[u8], place: usize) -> Option<Cell>
     Cell::from_bytes(cell)
 }
 
-/// Whether a slot's bytes have the kinds, the numbers of its cells, its own and the zeros that they have where it is done.
+/// Whether a slot's bytes have the kinds, the numbers of its cells, its own and the zeros that they have where it is
+/// done.
 #[inline]
 fn is_framed(slot: u32, bytes: &[u8]) -> bool
     requires slot { slot < MAX_SLOTS }
@@ -154,8 +155,8 @@ fn number_at(bytes: &[u8], at: usize) -> u32
     BigEndian::read_u32(&bytes[at..])
 }
 
-/// Whether the eight bytes from this place on are this number's, the highest first. It is the number that is turned, as it
-/// is the same for whatever stands there.
+/// Whether the eight bytes from this place on are this number's, the highest first. It is the number that is turned,
+/// as it is the same for whatever stands there.
 #[inline]
 fn holds_word(bytes: &[u8], at: usize, number: u64) -> bool
     requires { at + 8 ≤ length bytes.now }

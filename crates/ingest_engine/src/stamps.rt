@@ -10,9 +10,7 @@ ghost use Rattle.ingest_engine.specs.Stamps.{AddsStamps, IsStampUpTo, PastLast, 
 ghost use Rattle.ingest_engine.specs.declared.stamps.TheConstants.{ROW_SLOTS};
 
 use cell_types::{Cell, Fault, Geometry, Refusal, Volume};
-use commit_record::{
-    SLOT_BYTES, SlotState, cells_of_slot, done_stamp, slot_of_row, stamp_of_row,
-};
+use commit_record::{SLOT_BYTES, SlotState, cells_of_slot, done_stamp, slot_of_row, stamp_of_row};
 use recovery_engine::Ready;
 use worm_device::{Device, Direct, View};
 
@@ -73,8 +71,8 @@ fn greatest_stamp<V: View>(view: &mut V, volume: &Volume, below: u32) -> Result<
     Ok(greatest)
 }
 
-/// The latest of a stamp and those of the done slots among so many, from the first on. The bytes of their cells are read
-/// by one call, into the room that is there for them.
+/// The latest of a stamp and those of the done slots among so many, from the first on. The bytes of their cells are
+/// read by one call, into the room that is there for them.
 fn with_slots<V: View>(
     view: &mut V,
     geometry: &Geometry,

@@ -57,12 +57,7 @@ pub fn slot_of_row_again(
 }
 
 /// `done_stamp`.
-pub fn done_stamp_again(
-    geometry: &Geometry,
-    pool_at: u32,
-    slot: u32,
-    bytes: &[u8],
-) -> Option<u32>
+pub fn done_stamp_again(geometry: &Geometry, pool_at: u32, slot: u32, bytes: &[u8]) -> Option<u32>
     requires slot { slot < geometry.now.slots }
     requires pool { pool_at ≡ layout.pool_at geometry.now }
     requires four { 64 ≤ length bytes.now }

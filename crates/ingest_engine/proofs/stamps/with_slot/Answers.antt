@@ -18,8 +18,9 @@ returns c = λ old new reads.
     let bytes = c.args.bytes.now in
     let stamp = c.in-Some.stamp in
     let done = c.in-Some.ensures in
-    slot_done g n (done_cells g n bytes stamp done c.requires.four) c.args.greatest c.requires.slot (omega arith) old new
-    (row_of_bytes n bytes _ (done_row_of g n bytes stamp done c.requires.four) reads) done.start done.length done.size
-    done.journal (done_state g n bytes stamp done c.requires.four c.requires.slot) (Some stamp) c.later_of.result
-    (done_has_stamp g n bytes stamp done c.requires.four) c.later_of.ensures.first c.later_of.ensures.second
+    let four = c.requires.four in
+    slot_done g n (done_cells g n bytes stamp done four) c.args.greatest c.requires.slot (omega arith) old new
+    (row_of_bytes n bytes _ (done_row_of g n bytes stamp done four) reads) done.start done.length done.size
+    done.journal (done_state g n bytes stamp done four c.requires.slot) (Some stamp) c.later_of.result
+    (done_has_stamp g n bytes stamp done four) c.later_of.ensures.first c.later_of.ensures.second
     c.later_of.ensures.either
