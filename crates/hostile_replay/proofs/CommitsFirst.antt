@@ -282,9 +282,11 @@ module _ (id : List ℕ) (stamp : Option ℕ) (body : List ℕ) (n : ℕ) (begun
       (cell_there (world_at (from + i)).sure (world_at (from + i)).image place ∙ at_sync) in
       let unsure : (world_at (from + i)).sure (reserve_at n) ≡ start.sure (reserve_at n) =
       ap (λ (now : Instant). now.sure (reserve_at n)) there ∙ ap (λ (s : Image). s (reserve_at n)) o.same in
-      start_unsure (reserve_at n) reserved.0 f.unused.reserve (sym unsure
+      let not_there : (v : List ℕ) → mixed (reserve_at n) ≡ Some v → ⊥ =
+      λ v is. start_unsure (reserve_at n) v f.unused.reserve (sym unsure
       ∙ sym (cell_elsewhere (world_at (from + i)).sure (world_at (from + i)).image place (reserve_at n)
-      (inl (omega (arith, f.suits.from, f.less)))) ∙ reserved.1)
+      (inl (omega (arith, f.suits.from, f.less)))) ∙ is) in
+      not_there reserved.0 reserved.1
 
   two_syncs : 2 ≤ syncs_in changes
   two_syncs = ⊎_elim

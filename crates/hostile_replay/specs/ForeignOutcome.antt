@@ -5,8 +5,8 @@
 --     ingest a `hello world`, foreign: before a step, 04 .. 05 in 5      not acknowledged
 --
 -- On a device of 1,000 cells the ingest commits slot 0 in cell 5, behind seven changes that it has to make before: cells 4
--- and 580 to 583, and two syncs. So a moment up to the eighth step comes before that, whatever engine it is that keeps its
--- contract.
+-- and 580 to 583, and two syncs. So a moment up to the eighth step comes before that. (`ingest` makes a sync before all of
+-- these, which changes nothing here, and commits in its ninth step. No contract tells of a sync that changes nothing.)
 use Rattle.std.specs.Prelude.{◌≡◌, ◌≤◌, ℕ, List, [], ◌∷◌, None, codes}
 use Rattle.worm_device.specs.State.{IsDevice}
 use Rattle.worm_memory.specs.Memory.{Memory, device_of}

@@ -89,13 +89,13 @@ pub fn headline()
     ensures { Headline }
 {}
 
-/// Where somebody else was to write the outcome cell of a fresh volume's ingest, which is acknowledged all the same, the
-/// moment was past the commit.
+/// Where somebody else was to write the outcome cell of an ingest's slot, and it is acknowledged all the same, the moment
+/// was past the commit.
 pub fn commits_come_first()
     ensures { CommitsComeFirst }
 {}
 
-/// Where somebody else abandons slot 0 before one of the first eight steps of its ingest, that is not acknowledged.
+/// Where somebody else is to abandon slot 0 before one of the first eight steps of its ingest, that is not acknowledged.
 pub fn abandoned_is_not_acknowledged()
     ensures { AbandonedIsNotAcknowledged }
 {}
