@@ -57,12 +57,12 @@ stored_cells d = cells_for (length (stored_bytes d.id d.body))
 -- what reading the document of a slot costs, of these
 pub slot_cost : List Document → ℕ → ℕ
 slot_cost [] slot = 0
-slot_cost (d ∷ ds) slot = cond (nat_eq d.slot slot) (stored_cells d + 4) (slot_cost ds slot)
+slot_cost (d ∷ ds) slot = cond (nat_eq d.slot slot) (stored_cells d) (slot_cost ds slot)
 
 cost_here : (d : Document) (ds : List Document) (slot : ℕ) (b : Bool) → nat_eq d.slot slot ≡ b
-    → slot_cost (d ∷ ds) slot ≡ cond b (stored_cells d + 4) (slot_cost ds slot)
+    → slot_cost (d ∷ ds) slot ≡ cond b (stored_cells d) (slot_cost ds slot)
 unfolding slot_cost
-cost_here d ds slot b is = ap (λ (c : Bool). cond c (stored_cells d + 4) (slot_cost ds slot)) is
+cost_here d ds slot b is = ap (λ (c : Bool). cond c (stored_cells d) (slot_cost ds slot)) is
 
 same_slot : (a b : ℕ) → a ≡ b → nat_eq a b ≡ true
 same_slot a b e = grind (arith, e)
@@ -70,13 +70,13 @@ same_slot a b e = grind (arith, e)
 other_slot : (a b : ℕ) → a < b → nat_eq a b ≡ false
 other_slot a b less = grind (arith, less)
 
--- that of one of them is its cells and four
+-- that of one of them is its cells
 pub slot_cost_is : (from : ℕ) (ds : List Document) → Rise from ds → (d : Document) → Contains ds d
-    → slot_cost ds d.slot ≡ stored_cells d + 4
+    → slot_cost ds d.slot ≡ stored_cells d
 slot_cost_is from [] rise d c = absurd (omega (arith, c.1))
 slot_cost_is from (e ∷ ds) rise d c = ⊎_elim
     (λ (same : e ≡ d). cost_here e ds d.slot true (same_slot e.slot d.slot (ap (λ (x : Document). x.slot) same))
-    ∙ ap (λ (x : Document). stored_cells x + 4) same)
+    ∙ ap (λ (x : Document). stored_cells x) same)
     (λ (rest : Contains ds d).
     let past = low (e.slot + 1) ds rise.1 d rest in
     cost_here e ds d.slot false (other_slot e.slot d.slot (omega (arith, past)))
