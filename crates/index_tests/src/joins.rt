@@ -54,6 +54,7 @@ impl<'a> Lists for TwoLists<'a> {
       next_reads = 0;
       has_reads = 0;
     } };
+
     ghost knows = { λ lists slot. ⊤ };
 
     fn count(&self) -> u32 {

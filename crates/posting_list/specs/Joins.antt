@@ -45,8 +45,8 @@ GatherPartsEnds g old new (Ok parts) = Gathers old new (slots_of parts.items) ×
 GatherPartsEnds g old new (Err refusal) = GatherEnds old new (Err refusal)
 
 -- gathering all that these terms have in common may end so
-pub record TermsGather (r : Reach) (terms : List SoughtTerm) (old new : ViewState) (result : Result (Vec Part) Refusal)
-    : Type 0 where
+pub record TermsGather (r : Reach) (terms : List SoughtTerm) (old new : ViewState)
+    (result : Result (Vec Part) Refusal) : Type 0 where
   pub ends : GatherPartsEnds r.volume.geometry (lists_over r terms 0 old) (lists_over r terms 0 new) result
 
 -- and costs at most so much

@@ -23,8 +23,8 @@
 //! trails away. He may add postings: so one whose slot
 //! is not done, or lies at or past the horizon, is evidence (rule 9), and `has` vouches only for what it has read.
 //!
-//! **One look at a slot**: as a list comes to a slot it reads the slot's state, and keeps where the document lies. So the
-//! slots that terms have in common are answered as parts, and who reads their documents reads no state again.
+//! **One look at a slot**: as a list comes to a slot it reads the slot's state, and keeps where the document lies. So
+//! the slots that terms have in common are answered as parts, and who reads their documents reads no state again.
 //!
 //! **Memory** is taken before: `SoughtTerms` holds each term's list and tag. `TermLists` is made of it over a view that
 //! is lent to it, and making it can't fail: a constructor that answers a `Result`, or a view that is held by value,

@@ -8,7 +8,7 @@ use Rattle.cell_types.specs.Layout.{Layout}
 use Rattle.cell_types.specs.declared.refusal.Fault.TheVariants as faults
 use Rattle.cell_types.specs.declared.refusal.Refusal.{Refusal}
 use Rattle.cell_types.specs.declared.refusal.Refusal.TheVariants.{DeviceFault, NoMemory, Tampered}
-use Rattle.volume_meaning.specs.Slots.{IsDoneSlot, cells_for}
+use Rattle.volume_meaning.specs.Slots.{cells_for}
 use Rattle.volume_meaning.specs.Words.{Matches, rule_of}
 use Rattle.worm_device.specs.State.{DeviceState}
 use Rattle.worm_device.specs.Views.{Viewed, seen_directly}
@@ -22,11 +22,10 @@ use Rattle.posting_list.proofs.Joining.{has_on}
 use Rattle.document_store.specs.Standing.{HoldsDocument}
 use Rattle.record_query.specs.Among.{AmongEnds, IsSlotCost, FoundAmong, IsMatchAmong, ReadsEach, added, row_cost}
 use Rattle.record_query.specs.Finding.{HasMatchAt, MatchesRise}
-use Rattle.record_query.specs.Matching.{HoldsOther, IsMatchIn, IsMatcherOf, KeepsTerms, MayBePassed, SlotEnds}
+use Rattle.record_query.specs.Matching.{HoldsOther, IsMatchIn, IsMatcherOf, KeepsTerms, SlotEnds}
 use Rattle.record_query.specs.declared.found.Match.{Match}
 use Rattle.document_store.proofs.Holding.{held_is_one, held_on, one_part}
 use Rattle.document_store.proofs.Naming.{fails_from}
-use Rattle.record_query.proofs.Matched.{done_of_held, slot_done_on}
 use Rattle.volume_meaning.proofs.Extending.{done_on}
 use Rattle.record_query.proofs.Costs.{cost_more, cost_within}
 
@@ -94,36 +93,27 @@ module _ (g : Layout) (slots : List ℕ) (k : ℕ) (terms : List (List ℕ)) (ol
 
   -- and so is the slot of place k
   judged_more : (all : List Match) → ((found : Match) → Contains matches found → Contains all found)
-      → (IsDoneSlot g now (slice_index slots k) → IsJudgedAt new (slice_index slots k) all)
-      → (i : ℕ) → i < k + 1 → IsDoneSlot g old (slice_index slots i) → IsJudgedAt new (slice_index slots i) all
-  judged_more all among here i less done = ⊎_elim
-      (λ (before : i < k). judged_on all (slice_index slots i) among (so_far.judged i before done))
-      (λ (at : i ≡ k).
-      subst (λ (j : ℕ). IsJudgedAt new (slice_index slots j) all) (sym at)
-      (here (slot_done_on grows (subst (λ (j : ℕ). IsDoneSlot g old (slice_index slots j)) at done))))
+      → IsJudgedAt new (slice_index slots k) all → (i : ℕ) → i < k + 1 → IsJudgedAt new (slice_index slots i) all
+  judged_more all among here i less = ⊎_elim
+      (λ (before : i < k). judged_on all (slice_index slots i) among (so_far.judged i before))
+      (λ (at : i ≡ k). subst (λ (j : ℕ). IsJudgedAt new (slice_index slots j) all) (sym at) here)
       (below_or_at i k less)
 
-  -- one that may be passed held no document with the terms
-  passed_none : MayBePassed g now new (slice_index slots k) terms → (id body : List ℕ)
+  -- one that holds another document held none with the terms
+  other_none : HoldsOther g new (slice_index slots k) terms → (id body : List ℕ)
       → HoldsDocument g now (slice_index slots k) id body → Matches (rule_of g.version) body terms → ⊥
-  passed_none passed id body was has = ⊎_elim
-      (λ (undone : IsDoneSlot g now (slice_index slots k) → ⊥). undone (done_of_held was))
-      (λ (other : HoldsOther g new (slice_index slots k) terms).
+  other_none other id body was has =
       let one = held_is_one g new (slice_index slots k) id body other.id other.body (held_on goes was) other.holds in
-      other.lacks (subst (λ (b : List ℕ). Matches (rule_of g.version) b terms) one.1 has))
-      passed
+      other.lacks (subst (λ (b : List ℕ). Matches (rule_of g.version) b terms) one.1 has)
 
   -- one more had no match
-  found_no_more : MayBePassed g now new (slice_index slots k) terms → FoundAmong g slots (k + 1) terms old new matches
-  found_no_more passed = record {
+  found_no_more : HoldsOther g new (slice_index slots k) terms → FoundAmong g slots (k + 1) terms old new matches
+  found_no_more other = record {
     all = λ i id body less was has. ⊎_elim
         (λ (before : i < k). so_far.all i id body before was has)
-        (λ (here : i ≡ k). absurd (passed_none passed id body (held_here i id body here was) has))
+        (λ (here : i ≡ k). absurd (other_none other id body (held_here i id body here was) has))
         (below_or_at i k less);
-    judged = judged_more matches (λ found among. among)
-        (λ done. ⊎_elim
-        (λ (undone : IsDoneSlot g now (slice_index slots k) → ⊥). absurd (undone done))
-        (λ (other : HoldsOther g new (slice_index slots k) terms). inr other) passed);
+    judged = judged_more matches (λ found among. among) (inr other);
     only = match_on;
     rise = so_far.rise;
   }
@@ -154,7 +144,7 @@ module _ (g : Layout) (slots : List ℕ) (k : ℕ) (terms : List (List ℕ)) (ol
         })
         (below_or_at i k less);
     judged = judged_more (matches ++ one ∷ []) (λ found among. Contains-append_left matches (one ∷ []) found among)
-        (λ done. inl (record { found = one; among = Contains-push matches one; slot_is = is.slot_is }));
+        (inl (record { found = one; among = Contains-push matches one; slot_is = is.slot_is }));
     only = λ found among. ⊎_elim
         (λ (before : Contains matches found). match_on found before)
         (λ (here : one ≡ found). subst (IsMatchAmong g new slots (k + 1) terms) here (record {

@@ -1,15 +1,11 @@
 -- A match in a slot, and none.
-use Rattle.std.proofs.Common.{◌≡◌, ℕ, List, length, Some, None, Ok, Err, sym, ◌∙◌, subst, inr}
+use Rattle.std.proofs.Common.{◌≡◌, ℕ, List, Some, None, Ok, Err, sym, ◌∙◌, subst}
 use Rattle.std.specs.Prelude.{IsTrue}
-use Rattle.cell_types.specs.Image.{Image, Extends}
 use Rattle.cell_types.specs.Layout.{Layout}
 use Rattle.cell_types.specs.Refusals.{refusal_of_fault}
 use Rattle.cell_types.specs.declared.refusal.Fault.{Fault}
 use Rattle.cell_types.specs.declared.refusal.Fault.TheVariants as faults
-use Rattle.volume_meaning.specs.Documents.{stored_bytes}
-use Rattle.volume_meaning.specs.Slots.{IsDoneSlot}
 use Rattle.volume_meaning.specs.Words.{rule_of}
-use Rattle.volume_meaning.proofs.Extending.{done_on}
 use Rattle.worm_device.specs.Views.{ViewState, Viewed}
 use Rattle.word_reader.specs.declared.matcher.Matcher.{Matcher}
 use Rattle.document_store.specs.Heads.{id_of}
@@ -20,27 +16,6 @@ use Rattle.document_store.specs.declared.part.Part.{Part}
 use Rattle.record_query.specs.Matching.{IsMatcherOf, ReadMatch, ReadOther, SlotEnds}
 use Rattle.record_query.specs.declared.found.Match.{Match}
 use Rattle.document_store.proofs.Holding.{part_on, whole_is_held}
-
--- a slot that holds a document is done
-pub done_of_held : {g : Layout} {image : Image} {n : ℕ} {id body : List ℕ} → HoldsDocument g image n id body
-    → IsDoneSlot g image n
-done_of_held {g} {image} {n} {id} {body} h = record {
-  start = h.start;
-  length = h.reserved;
-  bytes = length (stored_bytes id body);
-  journal = h.journal;
-  done = h.done;
-}
-
--- a slot that is done goes on being so
-pub slot_done_on : {g : Layout} {old new : Image} {n : ℕ} → Extends old new → IsDoneSlot g old n → IsDoneSlot g new n
-slot_done_on e d = record {
-  start = d.start;
-  length = d.length;
-  bytes = d.bytes;
-  journal = d.journal;
-  done = done_on e d.done;
-}
 
 -- a fault of a look, as a command refuses
 pub refused : (g : Layout) (n : ℕ) (terms : List (List ℕ)) (old new : ViewState) (fault : Fault)
@@ -77,10 +52,10 @@ module _ (g : Layout) (part : Part) (terms : List (List ℕ)) (m : Matcher)
   pub no_match : ReadOther new part.start part.bytes m → SlotEnds g part.slot terms old new (Ok None)
   no_match read = (
     same,
-    λ tells. inr (record {
+    λ tells. record {
       id = read.id;
       body = read.body;
       holds = whole_is_held g new part.slot part read.id read.body (now_tells tells) (holds tells) read.whole;
       lacks = read.differs (rule_of g.version) terms was;
-    }),
+    },
   )

@@ -265,14 +265,13 @@ module _ (owed : KeptAreOwed) (terms : List (List ℕ)) (r : Ready) (old settled
             };
           }
 
-      -- so it was gathered, is done, and was looked at
+      -- so it was gathered, and its document was read
       listed_judged : (matches : List Match) → found_among matches → 1 ≤ length terms → (n : ℕ) → all_listed n
           → IsJudged new.cells new.image terms matches n
       listed_judged matches f some n each =
           let owe = listed_owe n each in
           let first = owe 0 (omega (arith, some, length-map terms (sought_of r.volume.geometry.lists))) in
           let here = g.ends.0.all n owe (owed_small (reach_of r) first.term (seen_directly settled 0) n first.owed) in
-          let live = g.ends.0.live here.place here.inside in
           subst (IsJudged new.cells new.image terms matches) here.is
           (⊎_elim (λ (h : HasMatchAt matches (slice_index slots here.place)). inl h)
           (λ (o : HoldsOther r.volume.geometry new.image (slice_index slots here.place) terms). inr (record {
@@ -283,7 +282,7 @@ module _ (owed : KeptAreOwed) (terms : List (List ℕ)) (r : Ready) (old settled
             lacks = λ has. o.lacks (has_by has (one_layout {cells = new.cells} {more = new.cells} has.layout
                 r.volume.geometry has.volume (volume_now after tells)));
           }))
-          (f.judged here.place here.inside (live.1 (told tells))))
+          (f.judged here.place here.inside))
 
       led_judged : (matches : List Match) → found_among matches → 1 ≤ length terms → (n : ℕ)
           → IsLedTo settled.cells settled.image terms n → IsJudged new.cells new.image terms matches n

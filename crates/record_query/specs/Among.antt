@@ -8,7 +8,7 @@ use Rattle.cell_types.specs.declared.refusal.Refusal.TheVariants.{NoMemory}
 use Rattle.volume_meaning.specs.Words.{Matches, rule_of}
 use Rattle.worm_device.specs.State.{DeviceState}
 use Rattle.worm_device.specs.Views.{seen_directly}
-use Rattle.volume_meaning.specs.Slots.{IsDone, IsDoneSlot, cells_for}
+use Rattle.volume_meaning.specs.Slots.{IsDone, cells_for}
 use Rattle.document_store.specs.Looks.{LookRefuses}
 use Rattle.document_store.specs.Standing.{HoldsDocument}
 use Rattle.record_query.specs.Finding.{HasMatch, HasMatchAt, MatchesRise}
@@ -29,13 +29,13 @@ pub record IsMatchAmong (g : Layout) (image : Image) (slots : List ℕ) (k : ℕ
   pub is : IsMatchIn g image found.slot terms found
 
 -- Each document that one of the first k slots of the row held, and that has the terms, has its match. Each of these
--- slots that was done has its match, or holds a document that lacks one of the terms. Each match tells of one that is
--- held; and slots rise.
+-- slots has its match, or holds a document that lacks one of the terms. Each match tells of one that is held; and slots
+-- rise.
 pub record FoundAmong (g : Layout) (slots : List ℕ) (k : ℕ) (terms : List (List ℕ)) (before after : Image)
     (matches : List Match) : Type 0 where
   pub all : (i : ℕ) (id body : List ℕ) → i < k → HoldsDocument g before (slice_index slots i) id body
       → Matches (rule_of g.version) body terms → HasMatch matches (slice_index slots i) id body
-  pub judged : (i : ℕ) → i < k → IsDoneSlot g before (slice_index slots i)
+  pub judged : (i : ℕ) → i < k
       → HasMatchAt matches (slice_index slots i) ⊎ HoldsOther g after (slice_index slots i) terms
   pub only : (found : Match) → Contains matches found → IsMatchAmong g after slots k terms found
   pub rise : MatchesRise 0 matches

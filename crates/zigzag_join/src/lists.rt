@@ -1,7 +1,18 @@
 //! Lists of slots that can be asked for the next slot at or past one, and whether they have one.
 ghost use Rattle.std.specs.Prelude.{◌≡◌, ◌<◌, ◌≤◌, ℕ};
 ghost use Rattle.cell_types.specs.declared.geometry.TheConstants.{MAX_SLOTS};
-ghost use Rattle.zigzag_join.specs.Lists.{ListsState, Keeps, ListNextEnds, LandEnds, HasEnds, AsksNext, AsksHas, KnowsLanding, KnowsNext, KnowsOn};
+ghost use Rattle.zigzag_join.specs.Lists.{
+  ListsState,
+  Keeps,
+  ListNextEnds,
+  LandEnds,
+  HasEnds,
+  AsksNext,
+  AsksHas,
+  KnowsLanding,
+  KnowsNext,
+  KnowsOn,
+};
 
 use cell_types::Fault;
 

@@ -24,8 +24,10 @@ returns-in_default-clause-ends g c =
     (g.V.View.seen c.loop-from.self.view.now) c.loop-from.self.next_asks c.loop-from.self.has_asks in
     let new = counted_lists c.next_common.new.lists.reach c.next_common.new.lists.sought.now.terms.items c.next_common.new.lists.view.ghost_name
     (g.V.View.seen c.next_common.new.lists.view.now) c.next_common.new.lists.next_asks c.next_common.new.lists.has_asks in
-    parts_ended c.args.self.now.reach old now c.loop-from.from c.loop-from.parts.items c.loop-from.invariant new c.in_ok-slot.ensures.kept
-    (subst (λ (o : Option ℕ). JoinEnds c.loop-from.from now new (Ok o)) c.in_default.is c.in_ok-slot.ensures.ends)
+    parts_ended c.args.self.now.reach old now c.loop-from.from c.loop-from.parts.items c.loop-from.invariant new
+    c.in_ok-slot.ensures.kept
+    (subst (λ (o : Option ℕ). JoinEnds c.loop-from.from now new (Ok o))
+    c.in_default.is c.in_ok-slot.ensures.ends)
 
 pub returns-in_default-clause-costs : goal.returns-in_default-clause-costs
 returns-in_default-clause-costs g c =
@@ -35,8 +37,10 @@ returns-in_default-clause-costs g c =
     (g.V.View.seen c.loop-from.self.view.now) c.loop-from.self.next_asks c.loop-from.self.has_asks in
     let new = counted_lists c.next_common.new.lists.reach c.next_common.new.lists.sought.now.terms.items c.next_common.new.lists.view.ghost_name
     (g.V.View.seen c.next_common.new.lists.view.now) c.next_common.new.lists.next_asks c.next_common.new.lists.has_asks in
-    parts_costs c.args.self.now.reach old now c.loop-from.from c.loop-from.parts.items c.loop-from.invariant new c.in_ok-slot.ensures.kept
-    (subst (λ (o : Option ℕ). JoinCosts c.loop-from.from now new (Ok o)) c.in_default.is c.in_ok-slot.ensures.costs)
+    parts_costs c.args.self.now.reach old now c.loop-from.from c.loop-from.parts.items c.loop-from.invariant new
+    c.in_ok-slot.ensures.kept
+    (subst (λ (o : Option ℕ). JoinCosts c.loop-from.from now new (Ok o))
+    c.in_default.is c.in_ok-slot.ensures.costs)
 
 -- the join gives no answer
 pub returns-in_err-slot-clause-costs : goal.returns-in_err-slot-clause-costs
@@ -47,7 +51,8 @@ returns-in_err-slot-clause-costs g c =
     (g.V.View.seen c.loop-from.self.view.now) c.loop-from.self.next_asks c.loop-from.self.has_asks in
     let new = counted_lists c.next_common.new.lists.reach c.next_common.new.lists.sought.now.terms.items c.next_common.new.lists.view.ghost_name
     (g.V.View.seen c.next_common.new.lists.view.now) c.next_common.new.lists.next_asks c.next_common.new.lists.has_asks in
-    parts_costs c.args.self.now.reach old now c.loop-from.from c.loop-from.parts.items c.loop-from.invariant new c.in_err-slot.ensures.kept
+    parts_costs c.args.self.now.reach old now c.loop-from.from c.loop-from.parts.items c.loop-from.invariant new
+    c.in_err-slot.ensures.kept
     c.in_err-slot.ensures.costs
 
 -- there is no memory for one more
@@ -59,9 +64,12 @@ returns-in_err-keep-clause-costs g c =
     (g.V.View.seen c.loop-from.self.view.now) c.loop-from.self.next_asks c.loop-from.self.has_asks in
     let new = counted_lists c.next_common.new.lists.reach c.next_common.new.lists.sought.now.terms.items c.next_common.new.lists.view.ghost_name
     (g.V.View.seen c.next_common.new.lists.view.now) c.next_common.new.lists.next_asks c.next_common.new.lists.has_asks in
-    more_costs c.args.self.now.reach old now c.loop-from.from c.loop-from.parts.items c.loop-from.invariant new c.in_ok-slot.ensures.kept c.in-Some.slot
-    (subst (λ (o : Option ℕ). JoinEnds c.loop-from.from now new (Ok o)) c.in-Some.is c.in_ok-slot.ensures.ends)
-    (subst (λ (o : Option ℕ). JoinCosts c.loop-from.from now new (Ok o)) c.in-Some.is c.in_ok-slot.ensures.costs)
+    more_costs c.args.self.now.reach old now c.loop-from.from c.loop-from.parts.items c.loop-from.invariant new
+    c.in_ok-slot.ensures.kept c.in-Some.slot
+    (subst (λ (o : Option ℕ). JoinEnds c.loop-from.from now new (Ok o))
+    c.in-Some.is c.in_ok-slot.ensures.ends)
+    (subst (λ (o : Option ℕ). JoinCosts c.loop-from.from now new (Ok o))
+    c.in-Some.is c.in_ok-slot.ensures.costs)
 
 -- one more
 pub loop-from-preserved : goal.loop-from-preserved
@@ -77,12 +85,15 @@ loop-from-preserved g c =
     let same = same_reach c.args.self.now.reach c.next_common.new.lists.reach c.args.self.now.sought.now.terms.items
     c.next_common.new.lists.sought.now.terms.items c.args.self.now.view.ghost_name c.next_common.new.lists.view.ghost_name
     (g.V.View.seen c.args.self.now.view.now) (g.V.View.seen c.next_common.new.lists.view.now)
-    (keeps_then c.loop-from.invariant.slots.kept c.in_ok-slot.ensures.kept).made_of in
+    (keeps_then {a = old} {b = now} {c = new} c.loop-from.invariant.slots.kept c.in_ok-slot.ensures.kept).made_of in
     let part = known_part c.args.self.now.reach c.next_common.new.lists.reach same new c.next_common.new.lists.last c.in-Some.slot known c.in-Some-last.part
     c.in-Some-last.is in
-    parts_more c.args.self.now.reach old now c.loop-from.from c.loop-from.parts.items c.loop-from.invariant new c.in_ok-slot.ensures.kept c.in-Some.slot
-    (subst (λ (o : Option ℕ). JoinEnds c.loop-from.from now new (Ok o)) c.in-Some.is c.in_ok-slot.ensures.ends)
-    (subst (λ (o : Option ℕ). JoinCosts c.loop-from.from now new (Ok o)) c.in-Some.is c.in_ok-slot.ensures.costs)
+    parts_more c.args.self.now.reach old now c.loop-from.from c.loop-from.parts.items c.loop-from.invariant new
+    c.in_ok-slot.ensures.kept c.in-Some.slot
+    (subst (λ (o : Option ℕ). JoinEnds c.loop-from.from now new (Ok o))
+    c.in-Some.is c.in_ok-slot.ensures.ends)
+    (subst (λ (o : Option ℕ). JoinCosts c.loop-from.from now new (Ok o))
+    c.in-Some.is c.in_ok-slot.ensures.costs)
     c.in-Some-last.part part.0 part.1 c.keep.new.parts.items c.in_ok-keep.ensures
 
 -- no slot is left
