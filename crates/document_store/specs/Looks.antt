@@ -21,6 +21,7 @@ use Rattle.worm_device.specs.Counts.{Rose}
 use Rattle.worm_device.specs.Views.{ViewState}
 use Rattle.commit_record.specs.States.{IsOutOfPlace, IsState, stamp_cells}
 use Rattle.commit_record.specs.declared.slot.SlotState.{SlotState}
+use Rattle.commit_record.specs.declared.slot.SlotState.TheVariants.{Abandoned, Committed, Done, Reserved, Unused}
 use Rattle.document_store.specs.Heads.{HasBody, SpellsNone, id_of}
 use Rattle.document_store.specs.Putting.{GotFront, GotRest}
 use Rattle.document_store.specs.Standing.{HoldsDocument}
@@ -83,6 +84,19 @@ commit_breach part = faults.Tampered (record {
   rule = BROKEN_DOCUMENT;
   cell = outcome_at part.slot;
   found = record_bytes (Commit part.bytes part.journal) (outcome_at part.slot);
+})
+
+-- the part of slot n's document, by the state of the slot: there is none where it is not done
+abbrev pub part_of : ℕ → SlotState → Option Part
+part_of n Unused = None
+part_of n (Reserved start length) = None
+part_of n (Abandoned start length) = None
+part_of n (Committed start length bytes journal) = None
+part_of n (Done start length bytes journal) = Some (record {
+  slot = n;
+  start = document_at start length bytes journal;
+  bytes = bytes;
+  journal = journal;
 })
 
 -- slot n is in a state, as seen between two images, and it was not done

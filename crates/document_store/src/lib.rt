@@ -41,5 +41,5 @@ pub use checked::{Stored, check};
 pub use head::{Head, head_of_row, identifier_of_head, read_document, read_head};
 pub use identifier::{identifier_of, is_identifier, same_identifier};
 pub use laws::{held_is_one, held_is_standing, held_stays};
-pub use part::{Part, name_commit, read_part, slot_part};
+pub use part::{Part, name_commit, part_of_state, read_part, slot_part};
 pub use text::Text;

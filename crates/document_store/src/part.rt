@@ -2,8 +2,9 @@
 ghost use Rattle.std.specs.Prelude.{◌≡◌, ◌<◌, ◌≤◌, ◌+◌};
 ghost use Rattle.volume_meaning.specs.Slots.{cells_for};
 ghost use Rattle.worm_device.specs.Views.{Viewed};
+ghost use Rattle.commit_record.specs.Partition.{HasRoom};
 ghost use Rattle.commit_record.specs.States.{stamp_cells};
-ghost use Rattle.document_store.specs.Looks.{HasPart, IsStated, PartEnds, ReadDocumentEnds, commit_breach};
+ghost use Rattle.document_store.specs.Looks.{HasPart, IsStated, PartEnds, ReadDocumentEnds, commit_breach, part_of};
 
 use crate::head::{Head, read_document};
 use append_file::ContentFault;
@@ -34,21 +35,30 @@ pub fn slot_part<V: View>(view: &mut V, volume: &Volume, slot: u32) -> Result<Op
         + (3 + stamp_cells volume.now.geometry) }
     ensures ends { PartEnds volume.now.geometry slot (V.seen view.old) (V.seen view.new) result }
 {
+    let state = slot_state(view, volume, slot)?;
+    Ok(part_of_state(slot, &state))
+}
+
+/// The same by a state that was read of the slot. Reads nothing.
+pub fn part_of_state(slot: u32, state: &SlotState) -> Option<Part>
+    requires { HasRoom state.now }
+    ensures { result ≡ part_of slot state.now }
+{
     let SlotState::Done {
         start,
         length,
         bytes,
         journal,
-    } = slot_state(view, volume, slot)?
+    } = *state
     else {
-        return Ok(None);
+        return None;
     };
-    Ok(Some(Part {
+    Some(Part {
         slot,
         start: start + length - journal - document_cells(bytes),
         bytes,
         journal,
-    }))
+    })
 }
 
 /// Names the commit cell of a slot whose cells spell no document, as it was read: a part's numbers give it back.

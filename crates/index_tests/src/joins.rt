@@ -55,6 +55,8 @@ impl<'a> Lists for TwoLists<'a> {
       has_reads = 0;
     } };
 
+    ghost knows = { λ lists slot. ⊤ };
+
     fn count(&self) -> u32 {
         2
     }

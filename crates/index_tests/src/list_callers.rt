@@ -6,6 +6,7 @@ ghost use Rattle.worm_device.specs.Views.{Viewed};
 ghost use Rattle.posting_list.specs.Joins.{TermsGather, TermsJoin};
 
 use cell_types::{Fault, Refusal, Volume};
+use document_store::Part;
 use jump_index::Bounds;
 use posting_list::{SoughtTerms, TermLists};
 use std::alloc::Global;
@@ -30,7 +31,7 @@ fn first_common<V: View>(
     lists.next_common(from)
 }
 
-/// All slots that all terms have.
+/// All slots that all terms have, each by where its document lies.
 fn each_common<V: View>(
     alloc: Global,
     view: &mut V,
@@ -38,7 +39,7 @@ fn each_common<V: View>(
     volume: Volume,
     horizon: u32,
     bounds: Bounds,
-) -> Result<Vec<u32>, Refusal>
+) -> Result<Vec<Part>, Refusal>
     requires some { 1 ≤ length sought.now.terms.items }
     ensures viewed { Viewed (V.seen view.old) (V.seen view.new) }
     ensures gathers { TermsGather (record { volume = volume; horizon = horizon; bounds = bounds })

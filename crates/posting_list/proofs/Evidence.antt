@@ -1,5 +1,5 @@
 -- What a search names: it stands, in a place of its rule, and the rule is broken there.
-use Rattle.std.proofs.Common.{◌≡◌, ◌<◌, ◌≤◌, ◌+◌, ◌/◌, ⊎_elim, inl, inr, min, ℕ, Bool, true, false, List, Some, None, Ok, Err, refl, ap, sym, subst, arith, ◌∙◌}
+use Rattle.std.proofs.Common.{◌≡◌, ◌<◌, ◌≤◌, ◌+◌, ◌/◌, ⊎_elim, inl, inr, min, ℕ, true, false, List, Some, None, Ok, Err, refl, ap, sym, subst, arith, rules, ◌∙◌}
 use Rattle.std.specs.Prelude.{IsTrue}
 use Rattle.std.proofs.lemmas.Bool.{cases_lt}
 use Rattle.std.proofs.lemmas.Option.{none-some}
@@ -23,6 +23,7 @@ use Rattle.worm_device.proofs.Resting.{rests_of, viewed_self}
 use Rattle.commit_record.specs.States.{IsNoState, IsState, StateEnds, done_abandoned, done_unended, done_unreserved, done_wrongly, ends_unreserved, ends_unstamped, ends_wrongly, reserves_none}
 use Rattle.commit_record.specs.declared.slot.SlotState.{SlotState}
 use Rattle.commit_record.specs.declared.slot.SlotState.TheVariants.{Unused, Reserved, Abandoned, Committed, Done}
+use Rattle.document_store.specs.Looks.{part_of}
 use Rattle.jump_block.specs.Entries.{cell_of, posting_of}
 use Rattle.jump_block.specs.declared.held_entry.Entry.{Entry}
 use Rattle.jump_block.proofs.Counting.{rose_later}
@@ -31,7 +32,7 @@ use Rattle.jump_index.specs.declared.bounds.Bounds.{Bounds}
 use Rattle.jump_block.proofs.OneBlock.{in_place, leads_wider}
 use Rattle.jump_index.proofs.Telling.{told_before}
 use Rattle.posting_list.specs.Naming.{FaultSays, IsListRule, IsReachOf}
-use Rattle.posting_list.specs.Searches.{IsFalsePosting, LooksLive, head_of, says_done, within}
+use Rattle.posting_list.specs.Searches.{IsFalsePosting, LooksLive, head_of, within}
 use Rattle.posting_list.specs.declared.reach.Reach.{Reach}
 use Rattle.posting_list.proofs.Owed.{leads_on}
 
@@ -109,8 +110,8 @@ abandon_commit : (bytes journal : ℕ) → Abandon ≡ Commit bytes journal → 
 abandon_commit bytes journal e = cc
 
 -- a slot that was seen in another state is not done, where what was seen blank is so still
-pub not_done : (g : Layout) (before after : Image) (n : ℕ) (state : SlotState) → IsUnchanged before after
-    → says_done state ≡ false → IsState g before after n state → IsDoneSlot g after n → ⊥
+not_done : (g : Layout) (before after : Image) (n : ℕ) (state : SlotState) → IsUnchanged before after
+    → part_of n state ≡ None → IsState g before after n state → IsDoneSlot g after n → ⊥
 not_done g before after n Unused same other is done =
     let held = done.done.commits.reserves.reserve in
     none-some held.cell (sym is.reserve ∙ sym (same (reserve_at n)) ∙ held.stands)
@@ -124,50 +125,56 @@ not_done g before after n (Abandoned start length) same other is done =
 not_done g before after n (Committed start length bytes journal) same other is done =
     let held = done.done.done in
     none-some held.cell (sym is.done ∙ sym (same (done_at n)) ∙ held.stands)
-not_done g before after n (Done start length bytes journal) same other is done = true_never other where
-  true_never : true ≡ false → ⊥
-  true_never e = cc
+not_done g before after n (Done start length bytes journal) same other is done = none-some _ (sym other)
 
 pub false_never : false ≡ true → ⊥
 false_never e = cc
 
--- and one that was seen done is
-done_slot : (g : Layout) (before after : Image) (n : ℕ) (state : SlotState) → says_done state ≡ true
-    → IsState g before after n state → IsDoneSlot g after n
-done_slot g before after n Unused says is = absurd (false_never says)
-done_slot g before after n (Reserved start length) says is = absurd (false_never says)
-done_slot g before after n (Abandoned start length) says is = absurd (false_never says)
-done_slot g before after n (Committed start length bytes journal) says is = absurd (false_never says)
-done_slot g before after n (Done start length bytes journal) says is =
-    record { start = start; length = length; bytes = bytes; journal = journal; done = is }
-
 -- a slot at or past the horizon, or one that the volume does not have
 pub live_not : (r : Reach) (slot : ℕ) (s : ViewState) → min r.horizon r.volume.geometry.slots ≤ slot
-    → LooksLive r slot s s (Ok false)
+    → LooksLive r slot s s (Ok None)
 live_not r slot s past = record {
   viewed = viewed_self s;
   ends = λ tells still horizon live.
       past_horizon r.volume.geometry s.image r.horizon slot (omega (arith, past, live.slot)) horizon live;
 }
 
+-- a slot in another state than done
+live_none : (r : Reach) (slot : ℕ) (old new : ViewState) (state : SlotState) → Viewed old new
+    → StateEnds r.volume.geometry slot old new (Ok state) → part_of slot state ≡ None → LooksLive r slot old new (Ok None)
+live_none r slot old new state viewed ends none = record {
+  viewed = viewed;
+  ends = λ tells still horizon live.
+      not_done r.volume.geometry old.image new.image slot state ((rests_of viewed).shown still) none (ends.2 tells)
+      live.done;
+}
+
 -- a slot before it, by its state
-pub live_state : (r : Reach) (slot : ℕ) (old new : ViewState) (state : SlotState) (done : Bool)
+pub live_state : (r : Reach) (slot : ℕ) (old new : ViewState) (state : SlotState)
     → slot < min r.horizon r.volume.geometry.slots → Viewed old new
-    → StateEnds r.volume.geometry slot old new (Ok state) → done ≡ says_done state
-    → LooksLive r slot old new (Ok done)
-live_state r slot old new state true before viewed ends is = record {
+    → StateEnds r.volume.geometry slot old new (Ok state) → LooksLive r slot old new (Ok (part_of slot state))
+live_state r slot old new Unused before viewed ends = live_none r slot old new Unused viewed ends refl
+live_state r slot old new (Reserved start length) before viewed ends =
+    live_none r slot old new (Reserved start length) viewed ends refl
+live_state r slot old new (Abandoned start length) before viewed ends =
+    live_none r slot old new (Abandoned start length) viewed ends refl
+live_state r slot old new (Committed start length bytes journal) before viewed ends =
+    live_none r slot old new (Committed start length bytes journal) viewed ends refl
+live_state r slot old new (Done start length bytes journal) before viewed ends = record {
   viewed = viewed;
   ends = (
     omega (arith, before),
     omega (arith, before),
-    λ tells. done_slot r.volume.geometry old.image new.image slot state (sym is) (ends.2 tells),
+    λ tells. record { start = start; length = length; bytes = bytes; journal = journal; done = ends.2 tells },
+    refl,
+    record {
+      slot = omega (arith, before);
+      inside = omega (arith, ends.0.0.2, ends.0.1.3);
+      stated = search rules;
+      is = λ tells.
+          record { first = start; reserved = length; done = ends.2 (told_before viewed tells); start_is = refl };
+    },
   );
-}
-live_state r slot old new state false before viewed ends is = record {
-  viewed = viewed;
-  ends = λ tells still horizon live.
-      not_done r.volume.geometry old.image new.image slot state ((rests_of viewed).shown still) (sym is) (ends.2 tells)
-      live.done;
 }
 
 -- cells that are no state break a rule of such cells
@@ -274,7 +281,7 @@ module _ (r : Reach) (list : ℕ) (e : Entry) (less : list < all_lists r.volume.
 pub false_posting : (r : Reach) (list : ℕ) (e : Entry) (old mid new : ViewState) (fault : Fault)
     → list < r.volume.geometry.lists → Viewed old mid
     → (IsTrue old.base.tells → IsEntryBehind (within r) mid.image (head_of r list) e)
-    → LooksLive r (e.key / 256) mid new (Ok false) → IsFalsePosting e fault → FaultSays r old new fault
+    → LooksLive r (e.key / 256) mid new (Ok None) → IsFalsePosting e fault → FaultSays r old new fault
 false_posting r list e old mid new fault less viewed behind dead names =
     false_named r list e (omega (arith, less)) old mid new viewed dead.viewed behind
     (λ still tells horizon t.

@@ -4,17 +4,21 @@ use Rattle.std.specs.Prelude.{slice_get}
 use Rattle.cell_types.specs.declared.refusal.Fault.{Fault}
 use Rattle.cell_types.specs.declared.refusal.Fault.TheVariants.{Tampered, Failed}
 use Rattle.worm_device.specs.Views.{ViewState, Viewed}
-use Rattle.zigzag_join.specs.Lists.{ListsFaultEnds, HasEnds, Keeps, LandEnds}
-use Rattle.zigzag_join.specs.declared.lists.Landing.{Landing}
+use Rattle.zigzag_join.specs.Lists.{ListsFaultEnds, HasEnds, Keeps, KnowsNext, KnowsOn, LandEnds}
 use Rattle.jump_index.proofs.Telling.{told, told_before}
 use Rattle.cell_types.specs.Image.{Image}
+use Rattle.cell_types.specs.Layout.{Layout}
+use Rattle.document_store.specs.Looks.{HasPart}
+use Rattle.document_store.specs.declared.part.Part.{Part}
+use Rattle.document_store.proofs.Holding.{part_on}
 use Rattle.tamper_rules.proofs.Images.{same_image}
 use Rattle.worm_device.proofs.Resting.{rests_of}
 use Rattle.posting_list.specs.Naming.{FaultSays}
 use Rattle.posting_list.specs.Owing.{HasPosting, IsSlotOwed, Owes}
 use Rattle.posting_list.specs.Searches.{HasSlot, NextSlot}
-use Rattle.posting_list.specs.States.{counted_lists, row_of, term_row}
+use Rattle.posting_list.specs.States.{KnowsPart, counted_lists, row_of, term_row}
 use Rattle.posting_list.specs.Terms.{TermEnds}
+use Rattle.posting_list.specs.declared.next_slot.Landed.{Landed}
 use Rattle.posting_list.specs.declared.reach.Reach.{Reach}
 use Rattle.posting_list.specs.declared.sought_term.SoughtTerm.{SoughtTerm}
 use Rattle.zigzag_join.proofs.Joining.{paid_since}
@@ -33,6 +37,15 @@ pub none_owed : (r : Reach) (terms : List SoughtTerm) (which : ℕ) (s : ViewSta
     → (slot : ℕ) → Owes r terms s which slot → ⊥
 none_owed r terms which s never slot o =
     never o.term (record { size = o.owed.volume.size; there = o.there; list = o.owed.list })
+
+-- a part that was found is one later
+pub has_on : (g : Layout) (s t : ViewState) → Viewed s t → (part : Part) → HasPart g s part → HasPart g t part
+has_on g s t viewed part has = record {
+  slot = has.slot;
+  inside = has.inside;
+  stated = has.stated;
+  is = λ tells. part_on viewed.image (has.is (told_before viewed tells));
+}
 
 module _ (r : Reach) (terms : List SoughtTerm) (loan : ℕ) (s t : ViewState) (n h i j : ℕ) where
   -- what every row of reads keeps that the asks have paid for
@@ -93,9 +106,10 @@ module _ (r : Reach) (terms : List SoughtTerm) (loan : ℕ) (s t : ViewState) (n
     owed_here slot o =
         subst (λ (x : SoughtTerm). IsSlotOwed r x s slot) (one_term terms which o.term term o.there there) o.owed
 
-    pub land_ends : (from : ℕ) (result : Result (Option Landing) Fault) → NextSlot r term from s t result
-        → LandEnds which from (counted_lists r terms loan s n h) (counted_lists r terms loan t i j) result
-    land_ends from (Ok (Some n)) next = (
+    pub land_some : (from : ℕ) (landed : Landed) → NextSlot r term from s t (Ok (Some landed))
+        → LandEnds which from (counted_lists r terms loan s n h) (counted_lists r terms loan t i j)
+        (Ok (Some (record { slot = landed.part.slot; vouched = landed.vouched })))
+    land_some from landed next = (
       (
         next.ends.0,
         next.ends.1,
@@ -105,8 +119,14 @@ module _ (r : Reach) (terms : List SoughtTerm) (loan : ℕ) (s t : ViewState) (n
       ),
       λ yes tells. (term, there, next.ends.6 yes (told_before next.viewed tells)),
     )
-    land_ends from (Ok None) next = λ slot o past. next.ends slot (owed_here slot o) past
-    land_ends from (Err fault) next = fault_ends fault next.ends
+
+    pub land_none : (from : ℕ) → NextSlot r term from s t (Ok None)
+        → LandEnds which from (counted_lists r terms loan s n h) (counted_lists r terms loan t i j) (Ok None)
+    land_none from next = λ slot o past. next.ends slot (owed_here slot o) past
+
+    pub land_fails : (from : ℕ) (fault : Fault) → NextSlot r term from s t (Err fault)
+        → LandEnds which from (counted_lists r terms loan s n h) (counted_lists r terms loan t i j) (Err fault)
+    land_fails from fault next = fault_ends fault next.ends
 
     pub has_ends : (slot : ℕ) (result : Result Bool Fault) → HasSlot r term slot s t result
         → HasEnds which slot (counted_lists r terms loan s n h) (counted_lists r terms loan t i j) result
@@ -115,3 +135,24 @@ module _ (r : Reach) (terms : List SoughtTerm) (loan : ℕ) (s t : ViewState) (n
       λ yes tells. (term, there, has.ends.1 yes (told_before has.viewed tells)),
     )
     has_ends slot (Err fault) has = fault_ends fault has.ends
+
+-- what is known of a slot is known later
+pub knows_on : (r : Reach) (s t : ViewState) (last : Option Part) → Viewed s t
+    → KnowsOn (KnowsPart r s last) (KnowsPart r t last)
+knows_on r s t last viewed = λ slot known. record {
+  part = known.part;
+  is = known.is;
+  slot_is = known.slot_is;
+  has = has_on r.volume.geometry s t viewed known.part known.has;
+}
+
+-- and it is known of the slot that a list comes to
+pub knows_landed : (r : Reach) (term : SoughtTerm) (from : ℕ) (s t : ViewState) (landed : Landed)
+    → NextSlot r term from s t (Ok (Some landed)) → KnowsPart r t (Some landed.part) landed.part.slot
+knows_landed r term from s t landed next =
+    record { part = landed.part; is = refl; slot_is = refl; has = next.ends.8 }
+
+-- of the slot that is answered that is known
+pub knows_of : (knows : ℕ → Type 0) (answer : Option ℕ) (slot : ℕ) → answer ≡ Some slot
+    → KnowsNext knows (Ok answer) → knows slot
+knows_of knows answer slot is known = subst (λ (o : Option ℕ). KnowsNext knows (Ok o)) is known

@@ -1,5 +1,5 @@
 -- Where a search for the next slot lands.
-use Rattle.std.proofs.Common.{◌≡◌, ◌<◌, ◌*◌, ◌/◌, ◌^◌, refl, ℕ, Bool, IsTrue, zero, suc, List, [], ◌∷◌, slice_set, false, true, Some, None, Ok, Err, subst, arith}
+use Rattle.std.proofs.Common.{◌≡◌, ◌<◌, ◌*◌, ◌/◌, ◌^◌, ℕ, Bool, IsTrue, zero, suc, List, [], ◌∷◌, slice_set, Some, None, Ok, Err, subst, sym, arith}
 use Rattle.std.specs.Prelude.{slice_get}
 use Rattle.cell_types.specs.declared.refusal.Fault.{Fault}
 use Rattle.worm_device.specs.Views.{ViewState, Viewed}
@@ -11,6 +11,8 @@ use Rattle.jump_index.proofs.Telling.{told, told_before}
 use Rattle.jump_index.proofs.Ways.{search_on}
 use Rattle.jump_block.proofs.OneBlock.{leads_wider}
 use Rattle.jump_block.specs.Entries.{posting_of}
+use Rattle.document_store.specs.declared.part.Part.{Part}
+use Rattle.volume_meaning.specs.Slots.{IsDoneSlot}
 use Rattle.volume_meaning.proofs.Fronts.{front_holds}
 use Rattle.volume_meaning.proofs.Extending.{holds_on}
 use Rattle.posting_list.specs.Keeping.{KeepEach, KeepsSearch}
@@ -64,20 +66,21 @@ module _ (r : Reach) (term : SoughtTerm) (from : ℕ) (old mid new : ViewState)
   }
 
   module _ (e : Entry) (found : FindsGeq (within r) (head_of r term.list) (256 * from) old mid (Ok (Some e))) where
-    pub next_some : (vouched : Bool) → (IsTrue vouched → e.tag ≡ term.tag) → e.key < 2 ^ 32
-        → LooksLive r (e.key / 256) mid new (Ok true)
-        → NextSlot r term from old new (Ok (Some (record { slot = e.key / 256; vouched = vouched })))
-    next_some vouched same_tag fits live = record {
+    pub next_some : (part : Part) (vouched : Bool) → (IsTrue vouched → e.tag ≡ term.tag) → e.key < 2 ^ 32
+        → LooksLive r (e.key / 256) mid new (Ok (Some part))
+        → NextSlot r term from old new (Ok (Some (record { part = part; vouched = vouched })))
+    next_some part vouched same_tag fits live = record {
       viewed = viewed_then found.viewed live.viewed;
       ends = (
-        omega (arith, found.ends.0),
-        omega (arith, fits),
-        live.ends.0,
-        λ tells. live.ends.2 (told found.viewed tells),
+        omega (arith, found.ends.0, live.ends.3),
+        omega (arith, fits, live.ends.3),
+        omega (arith, live.ends.0, live.ends.3),
+        λ tells. subst (λ (n : ℕ). IsDoneSlot r.volume.geometry new.image n) (sym live.ends.3)
+            (live.ends.2 (told found.viewed tells)),
         λ slot owed past.
             let t = owed_trail r term old slot owed in
             let first = ((found.ends.2 owed.tells).1 t.at t.p t.trail (omega (arith, t.from, past))).0 in
-            omega (arith, first, t.below),
+            omega (arith, first, t.below, live.ends.3),
         λ tells.
             let behind = (found.ends.2 tells).0 in
             record {
@@ -88,7 +91,7 @@ module _ (r : Reach) (term : SoughtTerm) (from : ℕ) (old mid new : ViewState)
                   (leads_wider r.bounds.pool r.bounds.edge (omega arith) (omega arith) behind.leads);
               in_places = behind.place;
               holds = holds_on live.viewed.image (front_holds behind.in_front);
-              same_slot = refl;
+              same_slot = sym live.ends.3;
             },
         λ yes tells.
             let behind = (found.ends.2 tells).0 in
@@ -101,13 +104,14 @@ module _ (r : Reach) (term : SoughtTerm) (from : ℕ) (old mid new : ViewState)
               in_places = behind.place;
               holds = holds_on live.viewed.image (front_holds behind.in_front);
               same_tag = same_tag yes;
-              same_slot = refl;
+              same_slot = sym live.ends.3;
             },
-        live.ends.1,
+        omega (arith, live.ends.1, live.ends.3),
+        live.ends.4,
       );
     }
 
-    pub next_false : (fault : Fault) → LooksLive r (e.key / 256) mid new (Ok false) → IsFalsePosting e fault
+    pub next_false : (fault : Fault) → LooksLive r (e.key / 256) mid new (Ok None) → IsFalsePosting e fault
         → NextSlot r term from old new (Err fault)
     next_false fault dead names = record {
       viewed = viewed_then found.viewed dead.viewed;

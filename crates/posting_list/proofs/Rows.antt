@@ -11,8 +11,8 @@ use Rattle.zigzag_join.proofs.Joining.{reads_of}
 use Rattle.std.specs.Global.{Vec}
 use Rattle.cell_types.specs.declared.refusal.Refusal.{Refusal}
 use Rattle.cell_types.specs.declared.refusal.Refusal.TheVariants as refusals
-use Rattle.zigzag_join.specs.Gathering.{GatherEnds}
-use Rattle.posting_list.specs.Joins.{TermsCost, TermsGather, TermsGatherCost, TermsGatherReads, TermsJoin, gather_reads}
+use Rattle.document_store.specs.declared.part.Part.{Part}
+use Rattle.posting_list.specs.Joins.{GatherPartsEnds, TermsCost, TermsGather, TermsGatherCost, TermsGatherReads, TermsJoin, gather_reads}
 use Rattle.posting_list.specs.States.{counted_lists, lists_over, row_of, term_row}
 use Rattle.posting_list.specs.declared.reach.Reach.{Reach}
 use Rattle.posting_list.specs.declared.sought_term.SoughtTerm.{SoughtTerm}
@@ -123,21 +123,29 @@ costs_these r q terms others loan name from s t n h i j (Err fault) costs = reco
 
 -- So it is of all that they have in common.
 pub gathers_these : (r q : Reach) (terms others : List SoughtTerm) (loan name : ℕ) (s t : ViewState) (n h i j : ℕ)
-    (result : Result (Vec ℕ) Refusal) → (lists_over q others name t).made_of ≡ (lists_over r terms loan s).made_of
-    → GatherEnds (counted_lists r terms loan s n h) (counted_lists q others name t i j) result
+    (result : Result (Vec Part) Refusal) → (lists_over q others name t).made_of ≡ (lists_over r terms loan s).made_of
+    → GatherPartsEnds r.volume.geometry (counted_lists r terms loan s n h) (counted_lists q others name t i j) result
     → TermsGather r terms s t result
 gathers_these r q terms others loan name s t n h i j result same ends =
     unnamed result
-    (subst (λ (k : Reach). GatherEnds (counted_lists r terms loan s n h) (counted_lists k terms name t i j) result)
+    (subst
+    (λ (k : Reach). GatherPartsEnds r.volume.geometry (counted_lists r terms loan s n h)
+    (counted_lists k terms name t i j) result)
     (same_reach r q terms others loan name s t same)
     (subst
-    (λ (ts : List SoughtTerm). GatherEnds (counted_lists r terms loan s n h) (counted_lists q ts name t i j) result)
+    (λ (ts : List SoughtTerm). GatherPartsEnds r.volume.geometry (counted_lists r terms loan s n h)
+    (counted_lists q ts name t i j) result)
     (same_terms r q terms others loan name s t same) ends)) where
-      unnamed : (result : Result (Vec ℕ) Refusal)
-          → GatherEnds (counted_lists r terms loan s n h) (counted_lists r terms name t i j) result
+      unnamed : (result : Result (Vec Part) Refusal)
+          → GatherPartsEnds r.volume.geometry (counted_lists r terms loan s n h) (counted_lists r terms name t i j)
+          result
           → TermsGather r terms s t result
-      unnamed (Ok slots) ends =
-          record { ends = record { all = ends.all; vouched = ends.vouched; live = ends.live; rise = ends.rise } }
+      unnamed (Ok parts) ends = record {
+        ends = (
+          record { all = ends.0.all; vouched = ends.0.vouched; live = ends.0.live; rise = ends.0.rise },
+          ends.1,
+        );
+      }
       unnamed (Err refusals.DeviceFault) ends = record { ends = ends }
       unnamed (Err (refusals.Tampered e)) ends = record { ends = ends }
       unnamed (Err refusals.NoMemory) ends = record { ends = tt }

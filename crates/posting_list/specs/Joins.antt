@@ -1,14 +1,18 @@
 -- What the join of the lists of terms answers.
-use Rattle.std.specs.Prelude.{◌≤◌, ◌+◌, ◌*◌, ℕ, List, length, Option, Result}
+use Rattle.std.specs.Prelude.{◌≤◌, ◌+◌, ◌*◌, ℕ, List, length, map, Contains, Option, Result, Ok, Err}
 use Rattle.std.specs.Global.{Vec}
+use Rattle.cell_types.specs.Layout.{Layout}
 use Rattle.cell_types.specs.declared.geometry.TheConstants.{MAX_SLOTS}
 use Rattle.cell_types.specs.declared.refusal.Fault.{Fault}
 use Rattle.cell_types.specs.declared.refusal.Refusal.{Refusal}
 use Rattle.worm_device.specs.Counts.{IsStill}
 use Rattle.worm_device.specs.Views.{ViewState}
 use Rattle.zigzag_join.specs.Counts.{GatherCosts, HaveAllSlots, JoinCosts}
-use Rattle.zigzag_join.specs.Gathering.{GatherEnds}
+use Rattle.zigzag_join.specs.Gathering.{GatherEnds, Gathers}
 use Rattle.zigzag_join.specs.Joins.{JoinEnds}
+use Rattle.zigzag_join.specs.Lists.{ListsState}
+use Rattle.document_store.specs.Looks.{HasPart}
+use Rattle.document_store.specs.declared.part.Part.{Part}
 use Rattle.posting_list.specs.States.{counted_lists, lists_over}
 use Rattle.posting_list.specs.declared.has_slot.TheConstants.{HAS_READS}
 use Rattle.posting_list.specs.declared.next_slot.TheConstants.{NEXT_READS}
@@ -27,10 +31,23 @@ pub record TermsCost (r : Reach) (terms : List SoughtTerm) (from : ℕ) (old new
   pub costs : JoinCosts from (counted_lists r terms 0 old next_before has_before)
       (counted_lists r terms 0 new next_after has_after) result
 
+-- the slots of these parts
+abbrev pub slots_of : List Part → List ℕ
+slots_of parts = map (λ (part : Part). part.slot) parts
+
+-- each of these is where a slot's document lies
+abbrev pub HaveParts : Layout → ViewState → List Part → Type 0
+HaveParts g s parts = (part : Part) → Contains parts part → HasPart g s part
+
+-- How gathering slots, each by where its document lies, may end.
+abbrev pub GatherPartsEnds : Layout → ListsState → ListsState → Result (Vec Part) Refusal → Type 0
+GatherPartsEnds g old new (Ok parts) = Gathers old new (slots_of parts.items) × HaveParts g new.view parts.items
+GatherPartsEnds g old new (Err refusal) = GatherEnds old new (Err refusal)
+
 -- gathering all that these terms have in common may end so
-pub record TermsGather (r : Reach) (terms : List SoughtTerm) (old new : ViewState) (result : Result (Vec ℕ) Refusal)
-    : Type 0 where
-  pub ends : GatherEnds (lists_over r terms 0 old) (lists_over r terms 0 new) result
+pub record TermsGather (r : Reach) (terms : List SoughtTerm) (old new : ViewState)
+    (result : Result (Vec Part) Refusal) : Type 0 where
+  pub ends : GatherPartsEnds r.volume.geometry (lists_over r terms 0 old) (lists_over r terms 0 new) result
 
 -- and costs at most so much
 pub record TermsGatherCost (r : Reach) (terms : List SoughtTerm) (old new : ViewState)

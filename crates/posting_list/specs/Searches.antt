@@ -1,5 +1,5 @@
 -- What the searches of a term's list answer.
-use Rattle.std.specs.Prelude.{◌≡◌, ◌<◌, ◌≤◌, min, ℕ, Bool, true, false, Option, Some, None, Result, Ok, Err, IsTrue}
+use Rattle.std.specs.Prelude.{◌≡◌, ◌<◌, ◌≤◌, min, ℕ, Bool, Option, Some, None, Result, Ok, Err, IsTrue}
 use Rattle.cell_types.specs.Layout.{list_at}
 use Rattle.cell_types.specs.Records.{record_bytes}
 use Rattle.cell_types.specs.declared.geometry.TheConstants.{MAX_SLOTS}
@@ -10,17 +10,17 @@ use Rattle.volume_meaning.specs.Blocks.{PostingFields, posting_record}
 use Rattle.tamper_rules.specs.declared.numbers.TheConstants.{FAKE_POSTING}
 use Rattle.worm_device.specs.Counts.{IsStill}
 use Rattle.worm_device.specs.Views.{ViewState, Viewed}
-use Rattle.commit_record.specs.declared.slot.SlotState.{SlotState}
-use Rattle.commit_record.specs.declared.slot.SlotState.TheVariants.{Unused, Reserved, Abandoned, Committed, Done}
+use Rattle.document_store.specs.Looks.{HasPart}
+use Rattle.document_store.specs.declared.part.Part.{Part}
 use Rattle.jump_block.specs.Entries.{cell_of, posting_of}
 use Rattle.jump_block.specs.declared.held_entry.Entry.{Entry}
 use Rattle.jump_index.specs.Searches.{HasBoundedTrail, IsEntryBehind}
 use Rattle.jump_index.specs.declared.bounds.Bounds.{Bounds}
 use Rattle.posting_list.specs.Naming.{FaultSays}
 use Rattle.posting_list.specs.Owing.{HasPosting, IsSlotOwed, IsVouched}
+use Rattle.posting_list.specs.declared.next_slot.Landed.{Landed}
 use Rattle.posting_list.specs.declared.reach.Reach.{Reach}
 use Rattle.posting_list.specs.declared.sought_term.SoughtTerm.{SoughtTerm}
-use Rattle.zigzag_join.specs.declared.lists.Landing.{Landing}
 
 -- the bounds, as far as the volume's cells go
 abbrev pub within : Reach → Bounds
@@ -30,25 +30,19 @@ within r = record { pool = r.bounds.pool; edge = min r.bounds.edge r.volume.geom
 abbrev pub head_of : Reach → ℕ → ℕ
 head_of r list = list_at r.volume.geometry list
 
--- the state is that of a slot that is done
-abbrev pub says_done : SlotState → Bool
-says_done Unused = false
-says_done (Reserved start length) = false
-says_done (Abandoned start length) = false
-says_done (Committed start length bytes journal) = false
-says_done (Done start length bytes journal) = true
-
--- Whether a slot is live. It is done where it is said to be; where it is not, it isn't live by this horizon.
-abbrev pub LiveEnds : Reach → ℕ → ViewState → ViewState → Result Bool Fault → Type 0
-LiveEnds r slot old new (Ok true) =
+-- Whether a slot is live, and where its document lies then. It is done where there is a part; where there is none, it
+-- isn't live by this horizon.
+abbrev pub LiveEnds : Reach → ℕ → ViewState → ViewState → Result (Option Part) Fault → Type 0
+LiveEnds r slot old new (Ok (Some part)) =
     (slot < r.horizon) × (slot < r.volume.geometry.slots)
-    × (IsTrue old.base.tells → IsDoneSlot r.volume.geometry new.image slot)
-LiveEnds r slot old new (Ok false) =
+    × (IsTrue old.base.tells → IsDoneSlot r.volume.geometry new.image slot) × (part.slot ≡ slot)
+    × HasPart r.volume.geometry new part
+LiveEnds r slot old new (Ok None) =
     IsTrue old.base.tells → IsStill old.base.foreign_writes new.base.foreign_writes
     → IsHorizon r.volume.geometry new.image new.image r.horizon → IsLive r.volume.geometry new.image slot → ⊥
 LiveEnds r slot old new (Err fault) = FaultSays r old new fault
 
-pub record LooksLive (r : Reach) (slot : ℕ) (old new : ViewState) (result : Result Bool Fault) : Type 0 where
+pub record LooksLive (r : Reach) (slot : ℕ) (old new : ViewState) (result : Result (Option Part) Fault) : Type 0 where
   pub viewed : Viewed old new
   pub ends : LiveEnds r slot old new result
 
@@ -59,21 +53,21 @@ IsFalsePosting entry (Tampered e) =
     (e.rule ≡ FAKE_POSTING) × (e.cell ≡ cell_of entry)
     × (e.found ≡ record_bytes (posting_record (posting_of entry)) (cell_of entry))
 
--- The next slot of a term's list at or past one. It lies before the horizon, is one of the volume and done; and the
--- list vouches for it where that is said.
-abbrev pub NextSlotEnds : Reach → SoughtTerm → ℕ → ViewState → ViewState → Result (Option Landing) Fault → Type 0
+-- The next slot of a term's list at or past one. It lies before the horizon, is one of the volume and done; the list
+-- vouches for it where that is said; and there its document lies.
+abbrev pub NextSlotEnds : Reach → SoughtTerm → ℕ → ViewState → ViewState → Result (Option Landed) Fault → Type 0
 NextSlotEnds r term from old new (Ok (Some n)) =
-    (from ≤ n.slot) × (n.slot < MAX_SLOTS) × (n.slot < r.horizon)
-    × (IsTrue old.base.tells → IsDoneSlot r.volume.geometry new.image n.slot)
-    × ((slot : ℕ) → IsSlotOwed r term old slot → from ≤ slot → n.slot ≤ slot)
-    × (IsTrue old.base.tells → HasPosting r term new.image n.slot)
-    × (IsTrue n.vouched → IsTrue old.base.tells → IsVouched r term new.image n.slot)
-    × (n.slot < r.volume.geometry.slots)
+    (from ≤ n.part.slot) × (n.part.slot < MAX_SLOTS) × (n.part.slot < r.horizon)
+    × (IsTrue old.base.tells → IsDoneSlot r.volume.geometry new.image n.part.slot)
+    × ((slot : ℕ) → IsSlotOwed r term old slot → from ≤ slot → n.part.slot ≤ slot)
+    × (IsTrue old.base.tells → HasPosting r term new.image n.part.slot)
+    × (IsTrue n.vouched → IsTrue old.base.tells → IsVouched r term new.image n.part.slot)
+    × (n.part.slot < r.volume.geometry.slots) × HasPart r.volume.geometry new n.part
 NextSlotEnds r term from old new (Ok None) = (slot : ℕ) → IsSlotOwed r term old slot → from ≤ slot → ⊥
 NextSlotEnds r term from old new (Err fault) = FaultSays r old new fault
 
 pub record NextSlot (r : Reach) (term : SoughtTerm) (from : ℕ) (old new : ViewState)
-    (result : Result (Option Landing) Fault) : Type 0 where
+    (result : Result (Option Landed) Fault) : Type 0 where
   pub viewed : Viewed old new
   pub ends : NextSlotEnds r term from old new result
 

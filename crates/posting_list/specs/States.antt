@@ -1,6 +1,8 @@
 -- Lists of terms as the join sees them.
-use Rattle.std.specs.Prelude.{ℕ, List, [], ◌∷◌, length, map}
+use Rattle.std.specs.Prelude.{◌≡◌, ℕ, List, [], ◌∷◌, length, map, Option, Some}
 use Rattle.worm_device.specs.Views.{ViewState}
+use Rattle.document_store.specs.Looks.{HasPart}
+use Rattle.document_store.specs.declared.part.Part.{Part}
 use Rattle.zigzag_join.specs.Lists.{ListsState}
 use Rattle.posting_list.specs.Naming.{MayName, ShowsListEvidence}
 use Rattle.posting_list.specs.Owing.{IsLiveSlot, Lands, Owes, Vouches}
@@ -41,3 +43,10 @@ counted_lists r terms loan s next_asks has_asks = record {
 -- the same before they were asked for anything
 abbrev pub lists_over : Reach → List SoughtTerm → ℕ → ViewState → ListsState
 lists_over r terms loan s = counted_lists r terms loan s 0 0
+
+-- what is known of the slot is where its document lies: this is the part that is kept
+pub record KnowsPart (r : Reach) (s : ViewState) (last : Option Part) (slot : ℕ) : Type 0 where
+  pub part : Part
+  pub is : last ≡ Some part
+  pub slot_is : part.slot ≡ slot
+  pub has : HasPart r.volume.geometry s part

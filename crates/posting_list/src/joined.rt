@@ -1,17 +1,30 @@
 //! The lists of terms, as the join asks them.
+ghost use Rattle.std.specs.Prelude.{◌≡◌, ◌++◌, ◌∷◌, [], IfOk};
+
 use crate::own_search::{next_of_own, own_has};
 use crate::term_lists::SEARCHES;
 use crate::{SoughtTerm, TermLists};
-use cell_types::{Fault, MAX_SLOTS, Refusal};
+use cell_types::{Fault, MAX_SLOTS, NoMemory, Refusal, memory};
+use document_store::Part;
 use std::alloc::Global;
 use worm_device::View;
-use zigzag_join::{Landing, Lists, all_common, next_common};
+use zigzag_join::{Landing, Lists, next_common};
 
 impl<'a, V: View> TermLists<'a, V> {
     ghost use Rattle.std.specs.Prelude.{◌≡◌, ◌≤◌, length};
     ghost use Rattle.cell_types.specs.declared.geometry.TheConstants.{MAX_SLOTS};
     ghost use Rattle.worm_device.specs.Views.{Viewed};
-    ghost use Rattle.posting_list.specs.Joins.{TermsCost, TermsGather, TermsGatherCost, TermsGatherReads, TermsJoin};
+    ghost use Rattle.zigzag_join.specs.Counts.{GatherCosts};
+    ghost use Rattle.zigzag_join.specs.Lists.{Keeps};
+    ghost use Rattle.posting_list.specs.Joins.{
+      GatherPartsEnds,
+      TermsCost,
+      TermsGather,
+      TermsGatherCost,
+      TermsGatherReads,
+      TermsJoin,
+    };
+    ghost use Rattle.posting_list.specs.States.{counted_lists};
     ghost use Rattle.posting_list.specs.Terms.{TermEnds};
 
     /// The next slot at or past one that all of the terms have, `None` where there is none. The view is read alone.
@@ -36,12 +49,12 @@ impl<'a, V: View> TermLists<'a, V> {
         next_common(self, from)
     }
 
-    /// All slots that all of the terms have, by rising slot. The view is read alone.
+    /// All slots that all of the terms have, each by where its document lies, by rising slot. The view is read alone.
     ///
     /// # Errors
     ///
     /// Those of `next_common`, a fault of a read being `DeviceFault`; and `NoMemory`.
-    pub fn all_common(&mut self, alloc: Global) -> Result<Vec<u32>, Refusal>
+    pub fn all_common(&mut self, alloc: Global) -> Result<Vec<Part>, Refusal>
         requires some { 1 ≤ length self.old.sought.now.terms.items }
         ensures same_loan { self.new.view.ghost_name ≡ self.old.view.ghost_name }
         ensures viewed { Viewed (V.seen self.old.view.now) (V.seen self.new.view.now) }
@@ -52,7 +65,39 @@ impl<'a, V: View> TermLists<'a, V> {
         ensures reads { self.old.next_asks ≡ 0 → self.old.has_asks ≡ 0 → TermsGatherReads self.old.reach
             self.old.sought.now.terms.items (V.seen self.old.view.now) (V.seen self.new.view.now) }
     {
-        all_common(alloc, self)
+        self.gather(alloc)
+    }
+
+    /// The same, as the join speaks of its lists.
+    fn gather(&mut self, alloc: Global) -> Result<Vec<Part>, Refusal>
+        requires some { 1 ≤ length self.old.sought.now.terms.items }
+        ensures kept { Keeps (counted_lists self.old.reach self.old.sought.now.terms.items self.old.view.ghost_name
+            (V.seen self.old.view.now) self.old.next_asks self.old.has_asks)
+            (counted_lists self.new.reach self.new.sought.now.terms.items self.new.view.ghost_name
+            (V.seen self.new.view.now) self.new.next_asks self.new.has_asks) }
+        ensures ends { GatherPartsEnds self.old.reach.volume.geometry
+            (counted_lists self.old.reach self.old.sought.now.terms.items self.old.view.ghost_name
+            (V.seen self.old.view.now) self.old.next_asks self.old.has_asks)
+            (counted_lists self.new.reach self.new.sought.now.terms.items self.new.view.ghost_name
+            (V.seen self.new.view.now) self.new.next_asks self.new.has_asks) result }
+        ensures costs { GatherCosts (counted_lists self.old.reach self.old.sought.now.terms.items
+            self.old.view.ghost_name (V.seen self.old.view.now) self.old.next_asks self.old.has_asks)
+            (counted_lists self.new.reach self.new.sought.now.terms.items self.new.view.ghost_name
+            (V.seen self.new.view.now) self.new.next_asks self.new.has_asks) }
+    {
+        let mut parts = Vec::new(alloc);
+        let mut from = 0;
+        while from < MAX_SLOTS {
+            let Some(slot) = next_common(self, from)? else {
+                return Ok(parts);
+            };
+            let Some(part) = self.last else {
+                unreachable!();
+            };
+            keep(&mut parts, part)?;
+            from = slot + 1;
+        }
+        Ok(parts)
     }
 
     /// The term of a number, where the volume has its list, and as many cells as the view. Where it does not, nothing
@@ -75,10 +120,12 @@ impl<'a, V: View> TermLists<'a, V> {
 }
 
 impl<'a, V: View> Lists for TermLists<'a, V> {
-    ghost use Rattle.posting_list.specs.States.{counted_lists};
+    ghost use Rattle.posting_list.specs.States.{KnowsPart, counted_lists};
 
     ghost state = { λ t. counted_lists t.reach t.sought.now.terms.items t.view.ghost_name (V.seen t.view.now)
         t.next_asks t.has_asks };
+
+    ghost knows = { λ t slot. KnowsPart t.reach (V.seen t.view.now) t.last slot };
 
     fn count(&self) -> u32 {
         self.sought.terms.len() as u32
@@ -101,14 +148,22 @@ impl<'a, V: View> Lists for TermLists<'a, V> {
         };
         let reach = self.reach;
         let own = which as usize % SEARCHES;
-        next_of_own(
+        let found = next_of_own(
             &mut *self.view,
             &mut self.searches,
             own,
             &reach,
             &term,
             from,
-        )
+        )?;
+        let Some(landed) = found else {
+            return Ok(None);
+        };
+        self.last = Some(landed.part);
+        Ok(Some(Landing {
+            slot: landed.part.slot,
+            vouched: landed.vouched,
+        }))
     }
 
     fn has(&mut self, which: u32, slot: u32) -> Result<bool, Fault> {
@@ -127,4 +182,12 @@ impl<'a, V: View> Lists for TermLists<'a, V> {
             slot,
         )
     }
+}
+
+/// Adds a part behind the others.
+fn keep(parts: &mut Vec<Part>, part: Part) -> Result<(), NoMemory>
+    ensures { IfOk result (λ _. parts.new.items ≡ parts.old.items ++ part ∷ []) }
+{
+    memory::push(parts, part)?;
+    Ok(())
 }

@@ -23,6 +23,9 @@
 //! trails away. He may add postings: so one whose slot
 //! is not done, or lies at or past the horizon, is evidence (rule 9), and `has` vouches only for what it has read.
 //!
+//! **One look at a slot**: as a list comes to a slot it reads the slot's state, and keeps where the document lies. So
+//! the slots that terms have in common are answered as parts, and who reads their documents reads no state again.
+//!
 //! **Memory** is taken before: `SoughtTerms` holds each term's list and tag. `TermLists` is made of it over a view that
 //! is lent to it, and making it can't fail: a constructor that answers a `Result`, or a view that is held by value,
 //! would lose the device that was lent. For each list it keeps what is known of it from one search to the next, and a
@@ -33,10 +36,10 @@
 //! one whether a list has a slot at most 36,864: nine searches of 4,096. So to gather the slots that T terms have in
 //! common makes at most `T * (4,100 * (2 * m + 1) + 36,864 * m)` reads, where any one term's postings are of m slots.
 //!
-//! Stands on `jump_index` (the search of a list), `term_tags` (tags and lists) and `commit_record` (a slot's state),
-//! and implements `Lists` of `zigzag_join`. Begin with `joined.rt`, then `next_slot.rt` and `has_slot.rt`, and `search.rt`
-//! and `live.rt` below, which serve each list, that of times too; specs/Owing.antt says what must not be passed, and
-//! specs/Naming.antt what is evidence.
+//! Stands on `jump_index` (the search of a list), `term_tags` (tags and lists), `commit_record` (a slot's state) and
+//! `document_store` (where its document lies), and implements `Lists` of `zigzag_join`. Begin with `joined.rt`, then
+//! `next_slot.rt` and `has_slot.rt`, and `search.rt` and `live.rt` below, which serve each list, that of times too;
+//! specs/Owing.antt says what must not be passed, and specs/Naming.antt what is evidence.
 #![tactic(auto)]
 
 mod has_slot;
@@ -53,7 +56,7 @@ mod term_lists;
 
 pub use has_slot::HAS_READS;
 pub use laws::kept_are_owed;
-pub use live::{false_posting, is_live};
+pub use live::{false_posting, live_part};
 pub use next_slot::NEXT_READS;
 pub use reach::Reach;
 pub use search::find_in_list;

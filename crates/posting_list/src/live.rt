@@ -1,32 +1,26 @@
-//! Whether the slot of a posting is live, and a posting as evidence that it is none of a live slot's document.
+//! The part of a live slot's document, and a posting as evidence that it is none of such a document.
 ghost use Rattle.std.specs.Prelude.{◌≡◌, ◌<◌, ◌+◌, ◌%◌, ◌≤◌, ◌^◌};
-ghost use Rattle.posting_list.specs.Searches.{IsFalsePosting, LooksLive, says_done};
+ghost use Rattle.posting_list.specs.Searches.{IsFalsePosting, LooksLive};
 
 use crate::Reach;
 use cell_types::{Fault, breach};
-use commit_record::{SlotState, slot_state};
+use commit_record::slot_state;
+use document_store::{Part, part_of_state};
 use jump_block::Entry;
 use tamper_rules::FAKE_POSTING;
 use worm_device::View;
 
-/// Whether this is the state of a slot that is done.
-fn is_done(state: &SlotState) -> bool
-    ensures { result ≡ says_done state.now }
-{
-    matches!(state, SlotState::Done { .. })
-}
-
-/// Whether the slot is done and lies before the horizon. At most four reads.
-pub fn is_live<V: View>(view: &mut V, reach: &Reach, slot: u32) -> Result<bool, Fault>
+/// Where the document of a slot lies, if the slot is done and lies before the horizon. At most four reads.
+pub fn live_part<V: View>(view: &mut V, reach: &Reach, slot: u32) -> Result<Option<Part>, Fault>
     requires size { reach.now.volume.geometry.cells ≡ (V.seen view.old).cells }
     ensures reads { (V.seen view.new).base.reads ≤ (V.seen view.old).base.reads + 4 }
     ensures live { LooksLive reach.now slot (V.seen view.old) (V.seen view.new) result }
 {
     if slot >= reach.horizon.min(reach.volume.geometry.slots()) {
-        return Ok(false);
+        return Ok(None);
     }
     let state = slot_state(view, &reach.volume, slot)?;
-    Ok(is_done(&state))
+    Ok(part_of_state(slot, &state))
 }
 
 /// The posting is evidence: it is none of a live slot's document.

@@ -6,13 +6,21 @@ ghost use Rattle.posting_list.specs.Searches.{NextSlot};
 ghost use Rattle.posting_list.specs.declared.next_slot.TheConstants.{NEXT_READS};
 
 use crate::has_slot::is_same;
-use crate::live::{false_posting, is_live};
+use crate::live::{false_posting, live_part};
 use crate::search::find_in_list;
 use crate::{Reach, SoughtTerm};
 use cell_types::Fault;
+use document_store::Part;
 use jump_index::KeptSearch;
 use worm_device::View;
-use zigzag_join::Landing;
+
+/// A slot that a list has come to, by where its document lies.
+#[derive(Clone, Copy)]
+pub(crate) struct Landed {
+    pub part: Part,
+    /// Whether the list vouches for the slot.
+    pub vouched: bool,
+}
 
 /// How many reads one ask for a next slot may cost: those of a search, 4,096, and four of the slot that it comes to.
 pub const NEXT_READS: u64 = 4_100;
@@ -25,7 +33,7 @@ pub(crate) fn next_slot<V: View>(
     reach: &Reach,
     term: &SoughtTerm,
     from: u32,
-) -> Result<Option<Landing>, Fault>
+) -> Result<Option<Landed>, Fault>
     requires size { reach.now.volume.geometry.cells ≡ (V.seen view.old).cells }
     requires list { term.now.list < reach.now.volume.geometry.lists }
     requires from { from < MAX_SLOTS }
@@ -38,13 +46,11 @@ pub(crate) fn next_slot<V: View>(
     let Some(entry) = found else {
         return Ok(None);
     };
-    let slot = entry.key / 256;
-    let live = is_live(view, reach, slot)?;
-    if !live {
+    let Some(part) = live_part(view, reach, entry.key / 256)? else {
         return Err(false_posting(&entry));
-    }
-    Ok(Some(Landing {
-        slot,
+    };
+    Ok(Some(Landed {
+        part,
         vouched: is_same(&entry.tag, &term.tag),
     }))
 }

@@ -7,13 +7,12 @@ ghost use Rattle.posting_list.specs.declared.has_slot.TheConstants.{HAS_READS};
 ghost use Rattle.posting_list.specs.declared.next_slot.TheConstants.{NEXT_READS};
 
 use crate::has_slot::has_slot;
-use crate::next_slot::next_slot;
+use crate::next_slot::{Landed, next_slot};
 use crate::term_lists::SEARCHES;
 use crate::{Reach, SoughtTerm};
 use cell_types::Fault;
 use jump_index::KeptSearch;
 use worm_device::View;
-use zigzag_join::Landing;
 
 /// The next slot of a term's list at or past one.
 pub(crate) fn next_of_own<V: View>(
@@ -23,7 +22,7 @@ pub(crate) fn next_of_own<V: View>(
     reach: &Reach,
     term: &SoughtTerm,
     from: u32,
-) -> Result<Option<Landing>, Fault>
+) -> Result<Option<Landed>, Fault>
     requires own { own < 8 }
     requires size { reach.now.volume.geometry.cells ≡ (V.seen view.old).cells }
     requires list { term.now.list < reach.now.volume.geometry.lists }

@@ -3,6 +3,7 @@ ghost use Rattle.posting_list.specs.Keeping.{KeepEach, keep_each_prop};
 
 use crate::{Reach, SoughtTerms};
 use cell_types::Volume;
+use document_store::Part;
 use jump_index::{Bounds, KeptSearch};
 use worm_device::View;
 
@@ -17,6 +18,8 @@ pub struct TermLists<'a, V: View> {
     pub sought: &'a SoughtTerms,
     pub reach: Reach,
     pub(crate) searches: [KeptSearch; SEARCHES],
+    /// The document's part of the slot that a list has come to last.
+    pub(crate) last: Option<Part>,
     /// How often a list was asked for its next slot.
     pub next_asks: u64,
     /// How often one was asked whether it has a slot.
@@ -51,6 +54,7 @@ impl<'a, V: View> TermLists<'a, V> {
                 bounds,
             },
             searches: [unknown; SEARCHES],
+            last: None,
             next_asks: 0,
             has_asks: 0,
         }

@@ -1,13 +1,15 @@
 //! The bytes of documents.
 ghost use Rattle.std.specs.Prelude.{◌≡◌, ◌≤◌, ◌+◌, ◌*◌};
 ghost use Rattle.append_file.specs.Reading.{IsPosition, NextByteEnds, NextRowEnds};
-ghost use Rattle.document_store.specs.Looks.{BodyEnds, CheckEnds, HasPart};
+ghost use Rattle.commit_record.specs.Partition.{HasRoom};
+ghost use Rattle.document_store.specs.Looks.{BodyEnds, CheckEnds, HasPart, part_of};
 ghost use Rattle.volume_meaning.specs.Slots as slots;
 ghost use Rattle.worm_device.specs.Views.{Viewed};
 
 use append_file::{ContentFault, Position, ROW_BYTES, next_byte, next_row};
 use cell_types::{Fault, Geometry};
-use document_store::{BodyFault, Part, Stored, body_into, check};
+use commit_record::SlotState;
+use document_store::{BodyFault, Part, Stored, body_into, check, part_of_state};
 use host_ports::Sink;
 use worm_device::View;
 
@@ -46,6 +48,14 @@ pub fn next_row_again<V: View>(
     ensures ends { NextRowEnds (V.seen view.old) (V.seen view.new) position.old position.new into.new result }
 {
     next_row(view, position, into)
+}
+
+/// `part_of_state`.
+pub fn part_of_state_again(slot: u32, state: &SlotState) -> Option<Part>
+    requires { HasRoom state.now }
+    ensures { result ≡ part_of slot state.now }
+{
+    part_of_state(slot, state)
 }
 
 /// `check`.

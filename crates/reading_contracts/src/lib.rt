@@ -16,9 +16,11 @@ mod tags;
 mod tree;
 mod words;
 
-pub use documents::{body_into_again, check_again, next_byte_again, next_row_again};
+pub use documents::{
+    body_into_again, check_again, next_byte_again, next_row_again, part_of_state_again,
+};
 pub use indexes::{find_geq_again, first_at_least_again, of_block_again};
-pub use joins::{is_live_again, next_common_again, next_of_terms_again};
+pub use joins::{all_of_terms_again, live_part_again, next_common_again, next_of_terms_again};
 pub use keeping::{has_trail_again, is_kept_again};
 pub use log::{
     cells_of_slot_again, done_stamp_again, end_of_log_again, open_again, slot_of_row_again,

@@ -23,7 +23,8 @@ use Rattle.tamper_rules.proofs.Images.{same_image}
 use Rattle.recovery_engine.specs.Settling.{Settles}
 use Rattle.recovery_engine.specs.declared.settling.Ready.{Ready}
 use Rattle.recovery_engine.proofs.OfSettled.{settled_same}
-use Rattle.posting_list.specs.Joins.{TermsGather, TermsGatherReads, gather_reads}
+use Rattle.posting_list.specs.Joins.{TermsGather, TermsGatherReads, gather_reads, slots_of}
+use Rattle.document_store.specs.declared.part.Part.{Part}
 use Rattle.posting_list.specs.Owing.{HasPosting, IsVouched}
 use Rattle.posting_list.specs.Terms.{sought_of}
 use Rattle.posting_list.specs.declared.sought_term.SoughtTerm.{SoughtTerm}
@@ -31,7 +32,7 @@ use Rattle.record_query.specs.Among.{IsSlotCost, ReadsEach}
 use Rattle.record_query.specs.Finding.{FindsBriefly, HaveCells}
 use Rattle.record_query.specs.Reaching.{reach_of}
 use Rattle.record_query.proofs.Costs.{IsSlotOf, stored_cells, common_cost, slot_cost, slot_cost_is, counted_slots, few_counted}
-use Rattle.record_query.proofs.Nearby.{candidate_of, have_postings, shared, shares, tagged}
+use Rattle.record_query.proofs.Nearby.{candidate_of, shared, tagged}
 
 -- the number of a term among those that are sought
 pub record IsNumbered (lists : ℕ) (terms : List (List ℕ)) (word : List ℕ) : Type 0 where
@@ -61,24 +62,16 @@ some_term : (a b : SoughtTerm) → Some a ≡ Some b → a ≡ b
 some_term a b e = cc
 
 -- what the terms, Near and the candidates ask for
-bound : (old settled mid new t m cells count : ℕ) → settled ≤ old + 64 → mid ≤ settled + gather_reads t m
-    → count ≤ t * m → new ≤ mid + 4 * cells + count → new ≤ old + 256 + 49152 * (t * (m + 1)) + 4 * cells
-bound old settled mid new t m cells count first gathered few last =
-    omega (arith, first, gathered, few, last, opened t m, more t m)
+bound : (old settled mid new t m cells : ℕ) → settled ≤ old + 64 → mid ≤ settled + gather_reads t m
+    → new ≤ mid + cells → new ≤ old + 256 + 49152 * (t * (m + 1)) + 4 * cells
+bound old settled mid new t m cells first gathered last =
+    omega (arith, first, gathered, last, opened t m, more t m)
   where
     opened : (t m : ℕ) → t * (4100 * (2 * m + 1) + 36864 * m) ≡ 45064 * (t * m) + 4100 * t
     opened t m = grind arith
 
     more : (t m : ℕ) → t * (m + 1) ≡ t * m + t
     more t m = grind arith
-
--- some terms ask for so many more
-some_times : (t m : ℕ) → 1 ≤ t → m ≤ t * m
-some_times zero m some = absurd (omega (arith, some))
-some_times (suc t) m some = omega (arith, opened t m)
-  where
-    opened : (t m : ℕ) → suc t * m ≡ m + t * m
-    opened t m = grind arith
 
 -- where no more than settling was done, that is brief
 brief : (old new t m cells : ℕ) → new ≤ old + 64 → new ≤ old + 256 + 49152 * (t * (m + 1)) + 4 * cells
@@ -136,10 +129,10 @@ module _ (terms : List (List ℕ)) (r : Ready) (old settled : DeviceState) (s : 
       small : d.slot < 16777216
       small = omega (arith, subst (λ (h : Layout). d.slot < h.slots) one stands.slot, s.ends.0.layout.slots)
 
-      costs : slot_cost documents d.slot ≡ stored_cells d + 4
+      costs : slot_cost documents d.slot ≡ stored_cells d
       costs = slot_cost_is 0 documents are.rise d c
 
-      low_cost : slot_cost documents d.slot ≤ 4 * stored_cells d + 1
+      low_cost : slot_cost documents d.slot ≤ stored_cells d
       low_cost = omega (arith, costs)
 
       -- its slot costs so much
@@ -153,7 +146,7 @@ module _ (terms : List (List ℕ)) (r : Ready) (old settled : DeviceState) (s : 
             (length (stored_bytes d.id d.body)) stands.journal) (sym same_mid)
             (subst (λ (h : Layout). IsDone h old.image d.slot stands.start stands.reserved
             (length (stored_bytes d.id d.body)) stands.journal) one stands.done);
-        most = omega (arith, costs, s.ends.0.layout.version);
+        most = omega (arith, costs);
       })
 
     -- gathering reads what Near asks for
@@ -180,17 +173,20 @@ module _ (terms : List (List ℕ)) (r : Ready) (old settled : DeviceState) (s : 
         (subst (λ (m : ℕ). mid.reads ≤ settled.reads
         + gather_reads (length (map (sought_of r.volume.geometry.lists) terms)) m) c.many paid)
 
-    module _ (some : 1 ≤ length terms) (slots : Vec ℕ)
+    module _ (some : 1 ≤ length terms) (parts : Vec Part)
         (g : TermsGather (reach_of r) (map (sought_of r.volume.geometry.lists) terms) (seen_directly settled 0)
-        (seen_directly mid 0) (Ok slots)) where
+        (seen_directly mid 0) (Ok parts)) where
+      abbrev slots : List ℕ
+      slots = slots_of parts.items
+
       -- each slot that was gathered is that of a candidate
-      candidate : (i : ℕ) → i < length slots.items
-          → IsSlotOf (IsCandidate r.volume.geometry terms) documents (slice_index slots.items i)
+      candidate : (i : ℕ) → i < length slots
+          → IsSlotOf (IsCandidate r.volume.geometry terms) documents (slice_index slots i)
       candidate i less =
-          let slot = slice_index slots.items i in
+          let slot = slice_index slots i in
           candidate_of r.volume.geometry old.cells old.image documents are terms some slot (λ word among.
           let k = numbered r.volume.geometry.lists terms word among in
-          let v = g.ends.vouched i less k.which (omega (arith, k.inside)) (told tells) in
+          let v = g.ends.0.vouched i less k.which (omega (arith, k.inside)) (told tells) in
           let term : v.0 ≡ sought_of r.volume.geometry.lists word = some_term v.0
           (sought_of r.volume.geometry.lists word) (sym v.1 ∙ k.there) in
           tagged (reach_of r) old.cells old.image documents volume_is settled_is are refl s.ends.0.to word slot
@@ -199,37 +195,31 @@ module _ (terms : List (List ℕ)) (r : Ready) (old settled : DeviceState) (s : 
           (subst (λ (t : SoughtTerm). IsVouched (reach_of r) t mid.image slot) term v.2)))
 
       -- and reading them costs what the candidates ask for
-      each_reads : (new : DeviceState) → ReadsEach r.volume.geometry slots.items mid new → (near cells : ℕ)
-          → IsNear volume.layout documents terms near → HaveCells (IsCandidate volume.layout terms) documents cells
-          → new.reads ≤ mid.reads + 4 * cells + near
-      each_reads new each near cells near_layout of_layout =
+      each_reads : (new : DeviceState) → ReadsEach r.volume.geometry slots mid new → (cells : ℕ)
+          → HaveCells (IsCandidate volume.layout terms) documents cells → new.reads ≤ mid.reads + cells
+      each_reads new each cells of_layout =
           let have = subst (λ (h : Layout). HaveCells (IsCandidate h terms) documents cells) layout_is of_layout in
-          let n = subst (λ (h : Layout). IsNear h documents terms near) layout_is near_layout in
-          let most = common_cost (IsCandidate r.volume.geometry terms) (SharesList r.volume.geometry n.term)
-          (slot_cost documents) documents are.rise
-          (λ d c is. shares r.volume.geometry n.term d (some_list n.term)
-          (have_postings r.volume.geometry old.cells old.image d volume_is settled_is ((are.each d).1 c).stands)
-          (is n.term n.among))
-          low_cost cells near have n.count slots.items g.ends.rise candidate in
+          let most = common_cost (IsCandidate r.volume.geometry terms) (slot_cost documents) documents are.rise low_cost
+          cells have slots g.ends.0.rise candidate in
           let paid = each (told tells) (slot_cost documents) (λ i less.
-          let c = candidate i less in cost_at c.d c.among (slice_index slots.items i) c.is) in
+          let c = candidate i less in cost_at c.d c.among (slice_index slots i) c.is) in
           omega (arith, most, paid)
 
   -- the slots were gathered, or this was ended
   pub briefly_gathered : FindsBriefly terms old mid
   briefly_gathered = λ tells still volume documents are near cells n have.
-      bound old.reads settled.reads mid.reads mid.reads (length terms) near cells 0
+      bound old.reads settled.reads mid.reads mid.reads (length terms) near cells
       (first_reads tells still volume documents are) (gathered_reads tells still volume documents are near n)
-      (omega arith) (omega arith)
+      (omega arith)
 
   -- and their documents were read
-  pub briefly_searched : 1 ≤ length terms → (slots : Vec ℕ)
+  pub briefly_searched : 1 ≤ length terms → (parts : Vec Part)
       → TermsGather (reach_of r) (map (sought_of r.volume.geometry.lists) terms) (seen_directly settled 0)
-      (seen_directly mid 0) (Ok slots)
+      (seen_directly mid 0) (Ok parts)
       → (new : DeviceState) → Viewed (seen_directly mid 0) (seen_directly new 0)
-      → ReadsEach r.volume.geometry slots.items mid new → FindsBriefly terms old new
-  briefly_searched some slots g new then each = λ tells still volume documents are near cells n have.
+      → ReadsEach r.volume.geometry (slots_of parts.items) mid new → FindsBriefly terms old new
+  briefly_searched some parts g new then each = λ tells still volume documents are near cells n have.
       let before = still_first (called_then s.called seen.called).foreign_writes then.called.foreign_writes still in
-      bound old.reads settled.reads mid.reads new.reads (length terms) near cells near
+      bound old.reads settled.reads mid.reads new.reads (length terms) near cells
       (first_reads tells before volume documents are) (gathered_reads tells before volume documents are near n)
-      (some_times (length terms) near some) (each_reads tells before volume documents are some slots g new each near cells n have)
+      (each_reads tells before volume documents are some parts g new each cells have)

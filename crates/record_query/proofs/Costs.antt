@@ -1,5 +1,5 @@
 -- What common slots cost together, the cells of candidates pay for; and how many slots Near counts.
-use Rattle.std.proofs.Common.{◌≡◌, ◌<◌, ◌≤◌, ◌+◌, ◌-◌, ◌*◌, ◌⊎◌, ⊎_elim, inl, inr, ℕ, zero, suc, Bool, true, false, cond, List, [], ◌∷◌, length, refl, sym, ap, subst, arith, ◌∙◌}
+use Rattle.std.proofs.Common.{◌≡◌, ◌<◌, ◌≤◌, ◌+◌, ◌-◌, ◌⊎◌, ⊎_elim, inl, inr, ℕ, zero, suc, Bool, true, false, cond, List, [], ◌∷◌, length, refl, sym, ap, subst, arith, ◌∙◌}
 use Rattle.std.specs.Prelude.{Contains, nat_eq, slice_index, slice_index_or, ⊤}
 use Rattle.volume_meaning.specs.Documents.{Document, Rise, stored_bytes}
 use Rattle.volume_meaning.specs.Slots.{cells_for}
@@ -57,12 +57,12 @@ stored_cells d = cells_for (length (stored_bytes d.id d.body))
 -- what reading the document of a slot costs, of these
 pub slot_cost : List Document → ℕ → ℕ
 slot_cost [] slot = 0
-slot_cost (d ∷ ds) slot = cond (nat_eq d.slot slot) (stored_cells d + 4) (slot_cost ds slot)
+slot_cost (d ∷ ds) slot = cond (nat_eq d.slot slot) (stored_cells d) (slot_cost ds slot)
 
 cost_here : (d : Document) (ds : List Document) (slot : ℕ) (b : Bool) → nat_eq d.slot slot ≡ b
-    → slot_cost (d ∷ ds) slot ≡ cond b (stored_cells d + 4) (slot_cost ds slot)
+    → slot_cost (d ∷ ds) slot ≡ cond b (stored_cells d) (slot_cost ds slot)
 unfolding slot_cost
-cost_here d ds slot b is = ap (λ (c : Bool). cond c (stored_cells d + 4) (slot_cost ds slot)) is
+cost_here d ds slot b is = ap (λ (c : Bool). cond c (stored_cells d) (slot_cost ds slot)) is
 
 same_slot : (a b : ℕ) → a ≡ b → nat_eq a b ≡ true
 same_slot a b e = grind (arith, e)
@@ -70,13 +70,13 @@ same_slot a b e = grind (arith, e)
 other_slot : (a b : ℕ) → a < b → nat_eq a b ≡ false
 other_slot a b less = grind (arith, less)
 
--- that of one of them is its cells and four
+-- that of one of them is its cells
 pub slot_cost_is : (from : ℕ) (ds : List Document) → Rise from ds → (d : Document) → Contains ds d
-    → slot_cost ds d.slot ≡ stored_cells d + 4
+    → slot_cost ds d.slot ≡ stored_cells d
 slot_cost_is from [] rise d c = absurd (omega (arith, c.1))
 slot_cost_is from (e ∷ ds) rise d c = ⊎_elim
     (λ (same : e ≡ d). cost_here e ds d.slot true (same_slot e.slot d.slot (ap (λ (x : Document). x.slot) same))
-    ∙ ap (λ (x : Document). stored_cells x + 4) same)
+    ∙ ap (λ (x : Document). stored_cells x) same)
     (λ (rest : Contains ds d).
     let past = low (e.slot + 1) ds rise.1 d rest in
     cost_here e ds d.slot false (other_slot e.slot d.slot (omega (arith, past)))
@@ -121,98 +121,75 @@ slot_behind IsSuch e ds slot past s = ⊎_elim
     (λ (rest : Contains ds s.d). record { d = s.d; among = rest; such = s.such; is = s.is })
     (first_or_rest s.d e ds s.among)
 
--- what the slots of such documents cost that are behind the first one, where those that are near are counted
-abbrev RestCosts : (Document → Type 0) → (Document → Type 0) → (ℕ → ℕ) → List Document → Type 0
-RestCosts IsSuch IsNearby cost ds =
-    (more count : ℕ) → HaveCells IsSuch ds more → Count IsNearby ds count → (slots : List ℕ) (start : ℕ)
-    → RiseFrom start slots → ((i : ℕ) → i < length slots → IsSlotOf IsSuch ds (slice_index slots i))
-    → row_cost cost slots (length slots) ≤ 4 * more + count
+-- what the slots of such documents cost that are behind the first one
+abbrev RestCosts : (Document → Type 0) → (ℕ → ℕ) → List Document → Type 0
+RestCosts IsSuch cost ds =
+    (more : ℕ) → HaveCells IsSuch ds more → (slots : List ℕ) (start : ℕ) → RiseFrom start slots
+    → ((i : ℕ) → i < length slots → IsSlotOf IsSuch ds (slice_index slots i))
+    → row_cost cost slots (length slots) ≤ more
 
--- of those behind the first one no more are counted
-rest_count : (IsSuch : Document → Type 0) (e : Document) (ds : List Document) (count : ℕ) → Count IsSuch (e ∷ ds) count
-    → (rest : ℕ) × (rest ≤ count) × Count IsSuch ds rest
-rest_count IsSuch e ds count counts = ⊎_elim
-    (λ (h : IsSuch e × ((rest : ℕ) × (count ≡ rest + 1) × Count IsSuch ds rest)).
-    (h.1.0, omega (arith, h.1.1), h.1.2))
-    (λ (h : (IsSuch e → ⊥) × Count IsSuch ds count). (count, omega arith, h.1))
-    counts
-
-module _ (IsSuch IsNearby : Document → Type 0) (cost : ℕ → ℕ) (e : Document) (ds : List Document)
-    (nearby : IsSuch e → IsNearby e) (rise : Rise (e.slot + 1) ds) (first_cost : cost e.slot ≤ 4 * stored_cells e + 1)
-    (rest_costs : RestCosts IsSuch IsNearby cost ds) (cells count : ℕ) (have : HaveCells IsSuch (e ∷ ds) cells)
-    (counts : Count IsNearby (e ∷ ds) count) (slot : ℕ) (slots : List ℕ) (start : ℕ)
+module _ (IsSuch : Document → Type 0) (cost : ℕ → ℕ) (e : Document) (ds : List Document) (rise : Rise (e.slot + 1) ds)
+    (first_cost : cost e.slot ≤ stored_cells e) (rest_costs : RestCosts IsSuch cost ds) (cells : ℕ)
+    (have : HaveCells IsSuch (e ∷ ds) cells) (slot : ℕ) (slots : List ℕ) (start : ℕ)
     (rises : RiseFrom start (slot ∷ slots))
     (each : (i : ℕ) → i < length (slot ∷ slots) → IsSlotOf IsSuch (e ∷ ds) (slice_index (slot ∷ slots) i))
     (s : IsSlotOf IsSuch (e ∷ ds) slot) where
-  -- the first slot is that of the first document, which is counted
-  at_first : e ≡ s.d → row_cost cost (slot ∷ slots) (length (slot ∷ slots)) ≤ 4 * cells + count
+  -- the first slot is that of the first document
+  at_first : e ≡ s.d → row_cost cost (slot ∷ slots) (length (slot ∷ slots)) ≤ cells
   at_first same =
       let here : e.slot ≡ slot = ap (λ (x : Document). x.slot) same ∙ s.is in
-      let first : cost slot ≤ 4 * stored_cells e + 1 =
-      subst (λ (n : ℕ). cost n ≤ 4 * stored_cells e + 1) here first_cost in
-      let such : IsSuch e = subst IsSuch (sym same) s.such in
+      let first : cost slot ≤ stored_cells e = subst (λ (n : ℕ). cost n ≤ stored_cells e) here first_cost in
       ⊎_elim
       (λ (h : IsSuch e × ((rest : ℕ) × (cells ≡ stored_cells e + rest) × HaveCells IsSuch ds rest)).
-      ⊎_elim
-      (λ (c : IsNearby e × ((rest : ℕ) × (count ≡ rest + 1) × Count IsNearby ds rest)).
-      let rest = rest_costs h.1.0 c.1.0 h.1.2 c.1.2 slots (slot + 1) rises.1
+      let rest = rest_costs h.1.0 h.1.2 slots (slot + 1) rises.1
       (λ i inside.
       let past = past_from (slot + 1) slots rises.1 i inside in
       slot_behind IsSuch e ds (slice_index slots i) (omega (arith, here, past)) (each (suc i) (omega (arith, inside)))) in
-      omega (arith, rest, first, h.1.1, c.1.1))
-      (λ (c : (IsNearby e → ⊥) × Count IsNearby ds count). absurd (c.0 (nearby such)))
-      counts)
-      (λ (h : (IsSuch e → ⊥) × HaveCells IsSuch ds cells). absurd (h.0 such))
+      omega (arith, rest, first, h.1.1))
+      (λ (h : (IsSuch e → ⊥) × HaveCells IsSuch ds cells). absurd (h.0 (subst IsSuch (sym same) s.such)))
       have
 
   -- or all of them are behind it
-  behind : Contains ds s.d → row_cost cost (slot ∷ slots) (length (slot ∷ slots)) ≤ 4 * cells + count
+  behind : Contains ds s.d → row_cost cost (slot ∷ slots) (length (slot ∷ slots)) ≤ cells
   behind rest =
       let after = low (e.slot + 1) ds rise s.d rest in
       let past : e.slot + 1 ≤ slot = omega (arith, after, s.is) in
-      let fewer = rest_count IsNearby e ds count counts in
       let of_rest : (more : ℕ) → HaveCells IsSuch ds more
-      → row_cost cost (slot ∷ slots) (length (slot ∷ slots)) ≤ 4 * more + fewer.0 =
-      λ more has. rest_costs more fewer.0 has fewer.2 (slot ∷ slots) (e.slot + 1) (past, rises.1)
+      → row_cost cost (slot ∷ slots) (length (slot ∷ slots)) ≤ more =
+      λ more has. rest_costs more has (slot ∷ slots) (e.slot + 1) (past, rises.1)
       (λ i inside.
       let h = past_from (e.slot + 1) (slot ∷ slots) (past, rises.1) i inside in
       slot_behind IsSuch e ds (slice_index (slot ∷ slots) i) (omega (arith, h)) (each i inside)) in
       ⊎_elim
       (λ (h : IsSuch e × ((more : ℕ) × (cells ≡ stored_cells e + more) × HaveCells IsSuch ds more)).
-      omega (arith, of_rest h.1.0 h.1.2, h.1.1, fewer.1))
-      (λ (h : (IsSuch e → ⊥) × HaveCells IsSuch ds cells). omega (arith, of_rest cells h.1, fewer.1))
+      omega (arith, of_rest h.1.0 h.1.2, h.1.1))
+      (λ (h : (IsSuch e → ⊥) × HaveCells IsSuch ds cells). of_rest cells h.1)
       have
 
-  cost_step : row_cost cost (slot ∷ slots) (length (slot ∷ slots)) ≤ 4 * cells + count
+  cost_step : row_cost cost (slot ∷ slots) (length (slot ∷ slots)) ≤ cells
   cost_step = ⊎_elim at_first behind (first_or_rest s.d e ds s.among)
 
--- Slots that rise and are those of such documents cost no more than four for each cell of these, and one for each that is
--- near, as all such ones are.
-all_cost : (IsSuch IsNearby : Document → Type 0) (cost : ℕ → ℕ) (ds : List Document) (from : ℕ) → Rise from ds
-    → ((d : Document) → Contains ds d → IsSuch d → IsNearby d)
-    → ((d : Document) → Contains ds d → cost d.slot ≤ 4 * stored_cells d + 1) → RestCosts IsSuch IsNearby cost ds
-all_cost IsSuch IsNearby cost [] from rise nearby low_cost cells count have counts [] start rises each = omega arith
-all_cost IsSuch IsNearby cost [] from rise nearby low_cost cells count have counts (slot ∷ slots) start rises each =
+-- Slots that rise and are those of such documents cost no more than these have cells.
+all_cost : (IsSuch : Document → Type 0) (cost : ℕ → ℕ) (ds : List Document) (from : ℕ) → Rise from ds
+    → ((d : Document) → Contains ds d → cost d.slot ≤ stored_cells d) → RestCosts IsSuch cost ds
+all_cost IsSuch cost [] from rise low_cost cells have [] start rises each = omega arith
+all_cost IsSuch cost [] from rise low_cost cells have (slot ∷ slots) start rises each =
     let s = each zero (omega arith) in
     absurd (omega (arith, s.among.1))
-all_cost IsSuch IsNearby cost (e ∷ ds) from rise nearby low_cost cells count have counts [] start rises each = omega arith
-all_cost IsSuch IsNearby cost (e ∷ ds) from rise nearby low_cost cells count have counts (slot ∷ slots) start rises each =
-    cost_step IsSuch IsNearby cost e ds (nearby e (zero, omega arith, refl)) rise.1
-    (low_cost e (zero, omega arith, refl))
-    (all_cost IsSuch IsNearby cost ds (e.slot + 1) rise.1 (λ d c. nearby d (behind_first d e ds c))
-    (λ d c. low_cost d (behind_first d e ds c)))
-    cells count have counts slot slots start rises each (each zero (omega arith))
+all_cost IsSuch cost (e ∷ ds) from rise low_cost cells have [] start rises each = omega arith
+all_cost IsSuch cost (e ∷ ds) from rise low_cost cells have (slot ∷ slots) start rises each =
+    cost_step IsSuch cost e ds rise.1 (low_cost e (zero, omega arith, refl))
+    (all_cost IsSuch cost ds (e.slot + 1) rise.1 (λ d c. low_cost d (behind_first d e ds c)))
+    cells have slot slots start rises each (each zero (omega arith))
 
 -- common slots rise
-pub common_cost : (IsSuch IsNearby : Document → Type 0) (cost : ℕ → ℕ) (ds : List Document) → Rise 0 ds
-    → ((d : Document) → Contains ds d → IsSuch d → IsNearby d)
-    → ((d : Document) → Contains ds d → cost d.slot ≤ 4 * stored_cells d + 1) → (cells count : ℕ)
-    → HaveCells IsSuch ds cells → Count IsNearby ds count → (slots : List ℕ) → gathering.GatheredRise slots
+pub common_cost : (IsSuch : Document → Type 0) (cost : ℕ → ℕ) (ds : List Document) → Rise 0 ds
+    → ((d : Document) → Contains ds d → cost d.slot ≤ stored_cells d) → (cells : ℕ) → HaveCells IsSuch ds cells
+    → (slots : List ℕ) → gathering.GatheredRise slots
     → ((i : ℕ) → i < length slots → IsSlotOf IsSuch ds (slice_index slots i))
-    → row_cost cost slots (length slots) ≤ 4 * cells + count
-common_cost IsSuch IsNearby cost ds rise nearby low_cost cells count have counts slots rises each =
-    all_cost IsSuch IsNearby cost ds 0 rise nearby low_cost cells count have counts slots 0
-    (rise_from 0 slots (λ i inside. omega arith) rises) each
+    → row_cost cost slots (length slots) ≤ cells
+common_cost IsSuch cost ds rise low_cost cells have slots rises each =
+    all_cost IsSuch cost ds 0 rise low_cost cells have slots 0 (rise_from 0 slots (λ i inside. omega arith) rises) each
 
 -- the slots of those that are counted
 pub record CountedSlots (IsSuch : Document → Type 0) (documents : List Document) (count : ℕ) : Type 0 where

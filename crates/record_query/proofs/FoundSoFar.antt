@@ -1,30 +1,32 @@
 -- The first slots of a row were searched.
 use Rattle.std.proofs.Common.{◌≡◌, ◌<◌, ◌≤◌, ◌+◌, ◌⊎◌, ℕ, List, [], ◌∷◌, ◌++◌, length, Some, None, Option, Ok, Err, refl, sym, ap, ◌∙◌, subst, inl, inr, ⊎_elim, arith}
-use Rattle.std.proofs.lemmas.List.Elements.{Contains-append_left, Contains-append_right, Contains-push, Contains-push_cases}
-use Rattle.std.specs.Prelude.{Contains, IsTrue, slice_index}
+use Rattle.std.proofs.lemmas.List.{get_or-map, length-map}
+use Rattle.std.proofs.lemmas.List.Elements.{Contains-append_left, Contains-get_or, Contains-append_right, Contains-push, Contains-push_cases}
+use Rattle.std.specs.Prelude.{Contains, IsTrue, slice_index, slice_index_or}
 use Rattle.cell_types.specs.Image.{Image, Extends}
 use Rattle.cell_types.specs.Layout.{Layout}
 use Rattle.cell_types.specs.declared.refusal.Fault.TheVariants as faults
 use Rattle.cell_types.specs.declared.refusal.Refusal.{Refusal}
 use Rattle.cell_types.specs.declared.refusal.Refusal.TheVariants.{DeviceFault, NoMemory, Tampered}
-use Rattle.volume_meaning.specs.Slots.{IsDoneSlot}
+use Rattle.volume_meaning.specs.Slots.{cells_for}
 use Rattle.volume_meaning.specs.Words.{Matches, rule_of}
 use Rattle.worm_device.specs.State.{DeviceState}
 use Rattle.worm_device.specs.Views.{Viewed, seen_directly}
 use Rattle.worm_device.proofs.Resting.{viewed_self, viewed_then}
 use Rattle.word_reader.specs.declared.matcher.Matcher.{Matcher}
 use Rattle.zigzag_join.specs.Gathering.{GatheredRise}
-use Rattle.document_store.specs.Looks.{ReadsOnce}
+use Rattle.document_store.specs.Looks.{HasPart, IsPartOf}
+use Rattle.document_store.specs.declared.part.Part.{Part}
+use Rattle.posting_list.specs.Joins.{HaveParts, slots_of}
+use Rattle.posting_list.proofs.Joining.{has_on}
 use Rattle.document_store.specs.Standing.{HoldsDocument}
 use Rattle.record_query.specs.Among.{AmongEnds, IsSlotCost, FoundAmong, IsMatchAmong, ReadsEach, added, row_cost}
 use Rattle.record_query.specs.Finding.{HasMatchAt, MatchesRise}
-use Rattle.record_query.specs.Matching.{HoldsOther, IsMatchIn, IsMatcherOf, KeepsTerms, MayBePassed, SlotEnds}
+use Rattle.record_query.specs.Matching.{HoldsOther, IsMatchIn, IsMatcherOf, KeepsTerms, SlotEnds}
 use Rattle.record_query.specs.declared.found.Match.{Match}
-use Rattle.document_store.proofs.Holding.{held_is_one, held_on}
+use Rattle.document_store.proofs.Holding.{held_is_one, held_on, one_part}
 use Rattle.document_store.proofs.Naming.{fails_from}
-use Rattle.record_query.proofs.Matched.{done_of_held, slot_done_on}
 use Rattle.volume_meaning.proofs.Extending.{done_on}
-use Rattle.worm_device.proofs.Images.{extends_then}
 use Rattle.record_query.proofs.Costs.{cost_more, cost_within}
 
 -- slots rise on, where the last one is behind the others
@@ -91,36 +93,27 @@ module _ (g : Layout) (slots : List ℕ) (k : ℕ) (terms : List (List ℕ)) (ol
 
   -- and so is the slot of place k
   judged_more : (all : List Match) → ((found : Match) → Contains matches found → Contains all found)
-      → (IsDoneSlot g now (slice_index slots k) → IsJudgedAt new (slice_index slots k) all)
-      → (i : ℕ) → i < k + 1 → IsDoneSlot g old (slice_index slots i) → IsJudgedAt new (slice_index slots i) all
-  judged_more all among here i less done = ⊎_elim
-      (λ (before : i < k). judged_on all (slice_index slots i) among (so_far.judged i before done))
-      (λ (at : i ≡ k).
-      subst (λ (j : ℕ). IsJudgedAt new (slice_index slots j) all) (sym at)
-      (here (slot_done_on grows (subst (λ (j : ℕ). IsDoneSlot g old (slice_index slots j)) at done))))
+      → IsJudgedAt new (slice_index slots k) all → (i : ℕ) → i < k + 1 → IsJudgedAt new (slice_index slots i) all
+  judged_more all among here i less = ⊎_elim
+      (λ (before : i < k). judged_on all (slice_index slots i) among (so_far.judged i before))
+      (λ (at : i ≡ k). subst (λ (j : ℕ). IsJudgedAt new (slice_index slots j) all) (sym at) here)
       (below_or_at i k less)
 
-  -- one that may be passed held no document with the terms
-  passed_none : MayBePassed g now new (slice_index slots k) terms → (id body : List ℕ)
+  -- one that holds another document held none with the terms
+  other_none : HoldsOther g new (slice_index slots k) terms → (id body : List ℕ)
       → HoldsDocument g now (slice_index slots k) id body → Matches (rule_of g.version) body terms → ⊥
-  passed_none passed id body was has = ⊎_elim
-      (λ (undone : IsDoneSlot g now (slice_index slots k) → ⊥). undone (done_of_held was))
-      (λ (other : HoldsOther g new (slice_index slots k) terms).
+  other_none other id body was has =
       let one = held_is_one g new (slice_index slots k) id body other.id other.body (held_on goes was) other.holds in
-      other.lacks (subst (λ (b : List ℕ). Matches (rule_of g.version) b terms) one.1 has))
-      passed
+      other.lacks (subst (λ (b : List ℕ). Matches (rule_of g.version) b terms) one.1 has)
 
   -- one more had no match
-  found_no_more : MayBePassed g now new (slice_index slots k) terms → FoundAmong g slots (k + 1) terms old new matches
-  found_no_more passed = record {
+  found_no_more : HoldsOther g new (slice_index slots k) terms → FoundAmong g slots (k + 1) terms old new matches
+  found_no_more other = record {
     all = λ i id body less was has. ⊎_elim
         (λ (before : i < k). so_far.all i id body before was has)
-        (λ (here : i ≡ k). absurd (passed_none passed id body (held_here i id body here was) has))
+        (λ (here : i ≡ k). absurd (other_none other id body (held_here i id body here was) has))
         (below_or_at i k less);
-    judged = judged_more matches (λ found among. among)
-        (λ done. ⊎_elim
-        (λ (undone : IsDoneSlot g now (slice_index slots k) → ⊥). absurd (undone done))
-        (λ (other : HoldsOther g new (slice_index slots k) terms). inr other) passed);
+    judged = judged_more matches (λ found among. among) (inr other);
     only = match_on;
     rise = so_far.rise;
   }
@@ -151,7 +144,7 @@ module _ (g : Layout) (slots : List ℕ) (k : ℕ) (terms : List (List ℕ)) (ol
         })
         (below_or_at i k less);
     judged = judged_more (matches ++ one ∷ []) (λ found among. Contains-append_left matches (one ∷ []) found among)
-        (λ done. inl (record { found = one; among = Contains-push matches one; slot_is = is.slot_is }));
+        (inl (record { found = one; among = Contains-push matches one; slot_is = is.slot_is }));
     only = λ found among. ⊎_elim
         (λ (before : Contains matches found). match_on found before)
         (λ (here : one ≡ found). subst (IsMatchAmong g new slots (k + 1) terms) here (record {
@@ -213,18 +206,24 @@ module _ (g : Layout) (slots : List ℕ) (k : ℕ) (old now new : DeviceState) (
   told : IsTrue old.tells → IsTrue now.tells
   told tells = subst IsTrue (sym so_far.viewed.called.tells) tells
 
-  -- what one slot more costs
-  pub reads_more : k < length slots
-      → ReadsOnce g (slice_index slots k) (seen_directly now 0) (seen_directly new 0)
-      → ReadsFirst g slots (k + 1) old new
-  reads_more inside once tells cost each =
+  -- what one slot more costs, whose document has this part
+  reads_more : (inside : k < length slots) → (part : Part)
+      → (IsTrue now.tells → IsPartOf g now.image (slice_index slots k) part)
+      → new.reads ≤ now.reads + cells_for part.bytes → ReadsFirst g slots (k + 1) old new
+  reads_more inside part is read tells cost each =
       let c = each k inside in
-      let read = once (told tells) c.start c.reserved c.bytes c.journal
-      (done_on (extends_then so_far.viewed.image viewed.image) c.done) in
-      omega (arith, so_far.reads tells cost each, read, c.most, cost_more cost slots k inside)
+      let same = one_part g now.image (slice_index slots k) part c.start c.reserved c.bytes c.journal (is (told tells))
+      (done_on so_far.viewed.image c.done) in
+      omega (
+        arith,
+        so_far.reads tells cost each,
+        read,
+        ap cells_for same.0,
+        c.most,
+        cost_more cost slots k inside,
+      )
 
-  module _ (rise : GatheredRise slots) (inside : k < length slots)
-      (once : ReadsOnce g (slice_index slots k) (seen_directly now 0) (seen_directly new 0)) where
+  module _ (rise : GatheredRise slots) (inside : k < length slots) (first : ReadsFirst g slots (k + 1) old new) where
     more : (terms : List (List ℕ)) → IsMatcherOf (rule_of g.version) terms m → (found : Option Match)
         → SlotEnds g (slice_index slots k) terms (seen_directly now 0) (seen_directly new 0) (Ok found)
         → IsTrue old.tells → FoundAmong g slots (k + 1) terms old.image new.image (added found matches)
@@ -240,13 +239,13 @@ module _ (g : Layout) (slots : List ℕ) (k : ℕ) (old now new : DeviceState) (
     same terms (Some one) ends = ends.0
 
     -- one slot more was searched
-    pub so_far_more : (o : Matcher) (found : Option Match) (all : List Match) → KeepsTerms n o
+    so_far_more : (o : Matcher) (found : Option Match) (all : List Match) → KeepsTerms n o
         → ((terms : List (List ℕ)) → IsMatcherOf (rule_of g.version) terms n
         → SlotEnds g (slice_index slots k) terms (seen_directly now 0) (seen_directly new 0) (Ok found))
         → all ≡ added found matches → FoundSoFar g slots (k + 1) old new m o all
     so_far_more o found all keeps ends is = record {
       viewed = viewed_then so_far.viewed viewed;
-      reads = reads_more inside once;
+      reads = first;
       keeps = λ rule terms was. keeps rule terms (so_far.keeps rule terms was);
       faults = λ terms was.
           same terms found (ends terms (so_far.keeps (rule_of g.version) terms was)) ∙ so_far.faults terms was;
@@ -255,7 +254,7 @@ module _ (g : Layout) (slots : List ℕ) (k : ℕ) (old now new : DeviceState) (
     }
 
   -- a slot was not searched
-  pub so_far_ended : (refusal : Refusal)
+  so_far_ended : (refusal : Refusal)
       → ((terms : List (List ℕ)) → IsMatcherOf (rule_of g.version) terms n
       → SlotEnds g (slice_index slots k) terms (seen_directly now 0) (seen_directly new 0) (Err refusal))
       → (terms : List (List ℕ)) → IsMatcherOf (rule_of g.version) terms m
@@ -272,3 +271,52 @@ module _ (g : Layout) (slots : List ℕ) (k : ℕ) (old now new : DeviceState) (
         (ends terms (so_far.keeps (rule_of g.version) terms was));
   }
   so_far_ended refusal ends terms was = absurd (ends terms (so_far.keeps (rule_of g.version) terms was))
+
+-- The slot of place k, whose part was handed on.
+module _ (g : Layout) (parts : List Part) (k : ℕ) (old now new : DeviceState) (m n : Matcher) (matches : List Match)
+    (so_far : FoundSoFar g (slots_of parts) k old now m n matches)
+    (viewed : Viewed (seen_directly now 0) (seen_directly new 0)) (inside : k < length parts) where
+  abbrev part : Part
+  part = slice_index_or parts k (record { slot = 0; start = 0; bytes = 0; journal = 0 })
+
+  within : k < length (slots_of parts)
+  within = omega (arith, inside, length-map parts (λ (p : Part). p.slot))
+
+  slot_is : part.slot ≡ slice_index (slots_of parts) k
+  slot_is = sym (get_or-map (λ (p : Part). p.slot) parts k _ 0 inside)
+
+  -- it is one still
+  pub part_now : HaveParts g (seen_directly old 0) parts → HasPart g (seen_directly now 0) part
+  part_now have = has_on g (seen_directly old 0) (seen_directly now 0) so_far.viewed part
+      (have part (Contains-get_or parts k _ inside))
+
+  -- what reading its document costs
+  pub part_reads : HaveParts g (seen_directly old 0) parts → new.reads ≤ now.reads + cells_for part.bytes
+      → ReadsFirst g (slots_of parts) (k + 1) old new
+  part_reads have read = reads_more g (slots_of parts) k old now new m n matches so_far viewed within part
+      (λ tells. subst (λ (slot : ℕ). IsPartOf g now.image slot part) slot_is ((part_now have).is tells)) read
+
+  -- it was searched
+  pub part_more : GatheredRise (slots_of parts) → HaveParts g (seen_directly old 0) parts
+      → new.reads ≤ now.reads + cells_for part.bytes → (o : Matcher) (found : Option Match) (all : List Match)
+      → KeepsTerms n o
+      → ((terms : List (List ℕ)) → IsMatcherOf (rule_of g.version) terms n
+      → SlotEnds g part.slot terms (seen_directly now 0) (seen_directly new 0) (Ok found))
+      → all ≡ added found matches → FoundSoFar g (slots_of parts) (k + 1) old new m o all
+  part_more rise have read o found all keeps ends is =
+      so_far_more g (slots_of parts) k old now new m n matches so_far viewed rise within (part_reads have read) o found
+      all keeps
+      (λ terms was. subst (λ (slot : ℕ). SlotEnds g slot terms (seen_directly now 0) (seen_directly new 0) (Ok found))
+      slot_is (ends terms was))
+      is
+
+  -- or it was not
+  pub part_ended : (refusal : Refusal)
+      → ((terms : List (List ℕ)) → IsMatcherOf (rule_of g.version) terms n
+      → SlotEnds g part.slot terms (seen_directly now 0) (seen_directly new 0) (Err refusal))
+      → (terms : List (List ℕ)) → IsMatcherOf (rule_of g.version) terms m
+      → AmongEnds g (slots_of parts) terms old new (Err refusal)
+  part_ended refusal ends = so_far_ended g (slots_of parts) k old now new m n matches so_far viewed refusal
+      (λ terms was. subst
+      (λ (slot : ℕ). SlotEnds g slot terms (seen_directly now 0) (seen_directly new 0) (Err refusal)) slot_is
+      (ends terms was))

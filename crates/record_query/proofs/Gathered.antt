@@ -8,6 +8,9 @@ use Rattle.worm_device.specs.State.{DeviceState}
 use Rattle.worm_device.specs.Views.{ViewState, seen_directly}
 use Rattle.read_cache.specs.Keeping.{seen_through}
 use Rattle.zigzag_join.specs.Joins.{AllOwe}
+use Rattle.cell_types.specs.Layout.{Layout}
+use Rattle.document_store.specs.Looks.{HasPart}
+use Rattle.document_store.specs.declared.part.Part.{Part}
 use Rattle.posting_list.specs.Joins.{TermsGather, TermsGatherReads}
 use Rattle.posting_list.specs.Naming.{IsShownEvidence}
 use Rattle.posting_list.specs.Owing.{Owes}
@@ -39,16 +42,22 @@ module _ (r : Reach) (terms : List SoughtTerm) (old new : DeviceState) (a b : �
   shown : (e : Evidence) → IsShownEvidence r (seen_directly new b) e → IsShownEvidence r (seen_directly new 0) e
   shown e s = record { stands = s.stands; broken = s.broken }
 
-  pub gathers_by_any : (result : Result (Vec ℕ) Refusal)
+  have : (g : Layout) (part : Part) → HasPart g (seen_directly new b) part → HasPart g (seen_directly new 0) part
+  have g part has = record { slot = has.slot; inside = has.inside; stated = has.stated; is = has.is }
+
+  pub gathers_by_any : (result : Result (Vec Part) Refusal)
       → TermsGather r terms (seen_directly old a) (seen_directly new b) result
       → TermsGather r terms (seen_directly old 0) (seen_directly new 0) result
-  gathers_by_any (Ok slots) g = record {
-    ends = record {
-      all = λ slot owe small. g.ends.all slot (all_owe slot owe) small;
-      vouched = g.ends.vouched;
-      live = g.ends.live;
-      rise = g.ends.rise;
-    };
+  gathers_by_any (Ok parts) g = record {
+    ends = (
+      record {
+        all = λ slot owe small. g.ends.0.all slot (all_owe slot owe) small;
+        vouched = g.ends.0.vouched;
+        live = g.ends.0.live;
+        rise = g.ends.0.rise;
+      },
+      λ part among. have r.volume.geometry part (g.ends.1 part among),
+    );
   }
   gathers_by_any (Err refusals.DeviceFault) g = record { ends = g.ends }
   gathers_by_any (Err (refusals.Tampered e)) g = record {
@@ -85,15 +94,21 @@ module _ (r : Reach) (terms : List SoughtTerm) (old new : ViewState) (a b : ℕ)
   shown_below : (e : Evidence) → IsShownEvidence r (seen_through b new) e → IsShownEvidence r new e
   shown_below e s = record { stands = s.stands; broken = s.broken }
 
-  pub gathers_below : (result : Result (Vec ℕ) Refusal)
+  have_below : (g : Layout) (part : Part) → HasPart g (seen_through b new) part → HasPart g new part
+  have_below g part has = record { slot = has.slot; inside = has.inside; stated = has.stated; is = has.is }
+
+  pub gathers_below : (result : Result (Vec Part) Refusal)
       → TermsGather r terms (seen_through a old) (seen_through b new) result → TermsGather r terms old new result
-  gathers_below (Ok slots) g = record {
-    ends = record {
-      all = λ slot owe small. g.ends.all slot (all_owe_below slot owe) small;
-      vouched = g.ends.vouched;
-      live = g.ends.live;
-      rise = g.ends.rise;
-    };
+  gathers_below (Ok parts) g = record {
+    ends = (
+      record {
+        all = λ slot owe small. g.ends.0.all slot (all_owe_below slot owe) small;
+        vouched = g.ends.0.vouched;
+        live = g.ends.0.live;
+        rise = g.ends.0.rise;
+      },
+      λ part among. have_below r.volume.geometry part (g.ends.1 part among),
+    );
   }
   gathers_below (Err refusals.DeviceFault) g = record { ends = g.ends }
   gathers_below (Err (refusals.Tampered e)) g = record {
@@ -107,7 +122,7 @@ module _ (r : Reach) (terms : List SoughtTerm) (old new : ViewState) (a b : ℕ)
   reads_below g = record { reads = g.reads }
 
 -- the same where the views at entry and at exit are said in another way
-pub gathers_then : {r : Reach} {terms : List SoughtTerm} {old was new now : ViewState} {result : Result (Vec ℕ) Refusal}
+pub gathers_then : {r : Reach} {terms : List SoughtTerm} {old was new now : ViewState} {result : Result (Vec Part) Refusal}
     → TermsGather r terms was now result → was ≡ old → now ≡ new → TermsGather r terms old new result
 gathers_then {r} {terms} {old} {was} {new} {now} {result} gathers entry exit =
     subst (λ (v : ViewState). TermsGather r terms v new result) entry

@@ -11,12 +11,11 @@ use Rattle.worm_device.specs.State.{DeviceState}
 use Rattle.worm_device.specs.Views.{Viewed, seen_directly}
 use Rattle.worm_device.proofs.Resting.{rested_since, rests_of}
 use Rattle.commit_record.specs.States.{AsksSlotBelow, ShowsBroken}
-use Rattle.document_store.specs.Looks.{BodyEnds, GotPart, HasPart, LookFails, NamesDocument, ReadsOnce, of_document, of_state}
+use Rattle.document_store.specs.Looks.{BodyEnds, GotPart, HasPart, LookFails, NamesDocument, of_document, of_state}
 use Rattle.document_store.specs.declared.part.Part.{Part}
 use Rattle.document_store.specs.declared.body.BodyFault.{BodyFault}
 use Rattle.document_store.specs.declared.body.BodyFault.TheVariants.{ReadFault, SinkFault, Tampered}
 use Rattle.cell_types.specs.declared.refusal.Fault.TheVariants as faults
-use Rattle.record_query.specs.Among.{LooksOnce}
 use Rattle.record_query.specs.Matching.{SlotEnds}
 use Rattle.record_query.specs.Reaching.{PutsFromDevice}
 use Rattle.record_query.specs.declared.found.Match.{Match}
@@ -74,10 +73,6 @@ module _ (old new : DeviceState) (a b : ℕ) where
     slot_by_any terms (Err refusals.DeviceFault) ends = ends
     slot_by_any terms (Err (refusals.Tampered e)) ends = fails ends
     slot_by_any terms (Err refusal) ends = absurd ends
-
-    -- what a look read
-    pub once_by_any : ReadsOnce g n (seen_directly old a) (seen_directly new b) → LooksOnce g n old new
-    once_by_any once = record { reads = once }
 
     got_part : {from to : SinkState} → GotPart g n (seen_directly new b) from to
         → GotPart g n (seen_directly new 0) from to

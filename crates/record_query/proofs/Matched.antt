@@ -1,82 +1,27 @@
 -- A match in a slot, and none.
-use Rattle.std.proofs.Common.{◌≡◌, ℕ, List, length, Some, None, Option, Result, Ok, Err, sym, ◌∙◌, subst, inl, inr, ⊎_elim}
+use Rattle.std.proofs.Common.{◌≡◌, ℕ, List, Some, None, Ok, Err, sym, ◌∙◌, subst}
 use Rattle.std.specs.Prelude.{IsTrue}
-use Rattle.cell_types.specs.Image.{Image, Extends}
 use Rattle.cell_types.specs.Layout.{Layout}
 use Rattle.cell_types.specs.Refusals.{refusal_of_fault}
 use Rattle.cell_types.specs.declared.refusal.Fault.{Fault}
 use Rattle.cell_types.specs.declared.refusal.Fault.TheVariants as faults
-use Rattle.cell_types.specs.declared.refusal.Refusal.{Refusal}
-use Rattle.cell_types.specs.declared.refusal.Refusal.TheVariants.{DeviceFault, NoMemory, Tampered}
-use Rattle.volume_meaning.specs.Documents.{stored_bytes}
-use Rattle.volume_meaning.specs.Slots.{IsDoneSlot}
 use Rattle.volume_meaning.specs.Words.{rule_of}
-use Rattle.volume_meaning.proofs.Extending.{done_on}
 use Rattle.worm_device.specs.Views.{ViewState, Viewed}
 use Rattle.word_reader.specs.declared.matcher.Matcher.{Matcher}
 use Rattle.document_store.specs.Heads.{id_of}
-use Rattle.document_store.specs.Looks.{IsPartOf, LookFails, PartEnds}
+use Rattle.document_store.specs.Looks.{IsPartOf, LookFails}
 use Rattle.document_store.specs.Standing.{HoldsDocument}
 use Rattle.document_store.specs.declared.head.Head.{Head}
 use Rattle.document_store.specs.declared.part.Part.{Part}
-use Rattle.record_query.specs.Matching.{HoldsOther, IsMatcherOf, ReadMatch, ReadOther, SlotEnds}
+use Rattle.record_query.specs.Matching.{IsMatcherOf, ReadMatch, ReadOther, SlotEnds}
 use Rattle.record_query.specs.declared.found.Match.{Match}
 use Rattle.document_store.proofs.Holding.{part_on, whole_is_held}
-use Rattle.document_store.proofs.Naming.{fails_from}
-
--- a slot that holds a document is done
-pub done_of_held : {g : Layout} {image : Image} {n : ℕ} {id body : List ℕ} → HoldsDocument g image n id body
-    → IsDoneSlot g image n
-done_of_held {g} {image} {n} {id} {body} h = record {
-  start = h.start;
-  length = h.reserved;
-  bytes = length (stored_bytes id body);
-  journal = h.journal;
-  done = h.done;
-}
-
--- a slot that is done goes on being so
-pub slot_done_on : {g : Layout} {old new : Image} {n : ℕ} → Extends old new → IsDoneSlot g old n → IsDoneSlot g new n
-slot_done_on e d = record {
-  start = d.start;
-  length = d.length;
-  bytes = d.bytes;
-  journal = d.journal;
-  done = done_on e d.done;
-}
 
 -- a fault of a look, as a command refuses
 pub refused : (g : Layout) (n : ℕ) (terms : List (List ℕ)) (old new : ViewState) (fault : Fault)
     → LookFails g n old new fault → SlotEnds g n terms old new (Err (refusal_of_fault fault))
 refused g n terms old new (faults.Tampered e) fails = fails
 refused g n terms old new faults.Failed fails = fails
-
--- a look for a part that found none, or failed
-pub no_part : (g : Layout) (n : ℕ) (terms : List (List ℕ)) (old new : ViewState) → PartEnds g n old new (Ok None)
-    → SlotEnds g n terms old new (Ok None)
-no_part g n terms old new ends = (ends.0, λ tells. inl (ends.1 tells).undone)
-
-module _ (g : Layout) (n : ℕ) (terms : List (List ℕ)) {old mid new : ViewState} (before : Viewed old mid)
-    (after : Viewed mid new) (same : mid.base.faults ≡ old.base.faults) where
-  told : IsTrue old.base.tells → IsTrue mid.base.tells
-  told tells = subst IsTrue (sym before.called.tells) tells
-
-  -- what a look found, seen from an earlier state on
-  pub ends_from : (result : Result (Option Match) Refusal) → SlotEnds g n terms mid new result
-      → SlotEnds g n terms old new result
-  ends_from (Ok (Some found)) ends = (ends.0 ∙ same, λ tells. ends.1 (told tells))
-  ends_from (Ok None) ends = (
-    ends.0 ∙ same,
-    λ tells. ⊎_elim
-        (λ (undone : IsDoneSlot g mid.image n → ⊥).
-        inl (λ (was : IsDoneSlot g old.image n). undone (slot_done_on before.image was)))
-        (λ (other : HoldsOther g new.image n terms). inr other)
-        (ends.1 (told tells)),
-  )
-  ends_from (Err NoMemory) ends = ends ∙ same
-  ends_from (Err DeviceFault) ends = fails_from g before after n same faults.Failed ends
-  ends_from (Err (Tampered e)) ends = fails_from g before after n same (faults.Tampered e) ends
-  ends_from (Err refusal) ends = absurd ends
 
 -- what was read in a part, after it was found
 module _ (g : Layout) (part : Part) (terms : List (List ℕ)) (m : Matcher)
@@ -107,10 +52,10 @@ module _ (g : Layout) (part : Part) (terms : List (List ℕ)) (m : Matcher)
   pub no_match : ReadOther new part.start part.bytes m → SlotEnds g part.slot terms old new (Ok None)
   no_match read = (
     same,
-    λ tells. inr (record {
+    λ tells. record {
       id = read.id;
       body = read.body;
       holds = whole_is_held g new part.slot part read.id read.body (now_tells tells) (holds tells) read.whole;
       lacks = read.differs (rule_of g.version) terms was;
-    }),
+    },
   )

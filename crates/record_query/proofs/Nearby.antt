@@ -1,9 +1,9 @@
 -- What the lists of a settled volume's terms lead to: slots of its documents, which share the lists.
-use Rattle.std.proofs.Common.{◌≡◌, ◌<◌, ◌≤◌, ◌+◌, ◌-◌, ◌*◌, ◌/◌, ℕ, zero, List, [], ◌∷◌, length, Some, refl, ap, sym, subst, arith, ◌∙◌}
-use Rattle.std.specs.Prelude.{Contains, slice_get}
-use Rattle.std.proofs.lemmas.Option.{get_or_from_slice_get, slice_get-get_or, slice_get_within}
+use Rattle.std.proofs.Common.{◌≡◌, ◌<◌, ◌≤◌, ◌+◌, ◌/◌, ℕ, zero, List, [], ◌∷◌, length, refl, sym, subst, arith, ◌∙◌}
+use Rattle.std.specs.Prelude.{Contains}
+use Rattle.std.proofs.lemmas.Option.{get_or_from_slice_get, slice_get_within}
 use Rattle.cell_types.specs.Image.{Image}
-use Rattle.cell_types.specs.Layout.{Layout, done_at, list_at, pool_at}
+use Rattle.cell_types.specs.Layout.{Layout, list_at, pool_at}
 use Rattle.volume_meaning.specs.Documents.{AreDocuments, Document, Stands}
 use Rattle.volume_meaning.specs.Volumes.{Holds, IsVolume}
 use Rattle.volume_meaning.proofs.OneDocument.{one_document}
@@ -12,7 +12,7 @@ use Rattle.volume_meaning.specs.Nearness.{IsCandidate, SharesList}
 use Rattle.volume_meaning.specs.Nodes.{IsBlockOf}
 use Rattle.volume_meaning.specs.Postings.{HasPostings, HasTag, IsWordPosting, list_of, tag_of}
 use Rattle.volume_meaning.proofs.Tags.{of_word, word_slot}
-use Rattle.tamper_rules.specs.Rules.{Postings, Trails}
+use Rattle.tamper_rules.specs.Rules.{Postings}
 use Rattle.tamper_rules.specs.Settling.{IsSettled}
 use Rattle.jump_block.proofs.OneBlock.{leads_wider}
 use Rattle.posting_list.specs.Owing.{HasPosting, IsVouched}
@@ -89,38 +89,7 @@ module _ (r : Reach) (cells : ℕ) (image : Image) (documents : List Document)
         is = sym o.slot ∙ v.same_slot;
       }
 
--- where a document has postings, and the tag of a word, it shares the word's list
-pub shares : (g : Layout) (word : List ℕ) (d : Document) → list_of g.lists word < g.lists → HasPostings g d.body
-    → HasTagOf g word d → SharesList g word d
-shares g word d less exist tagged =
-    let t = exist.each (list_of g.lists word) less in
-    let c = t.1.all (tag_of word) tagged in
-    record {
-      exist = exist;
-      posting = record { key = 256 * d.slot + c.0; last = length t.0 - 1; tag = tag_of word };
-      is = record {
-        list = less;
-        tags = t.0;
-        are = t.1;
-        ordinal = c.0;
-        here = contained t.0 c;
-        key = refl;
-        last = omega (arith, c.1);
-      };
-    }
-  where
-    contained : (tags : List (List ℕ)) (c : Contains tags (tag_of word)) → slice_get tags c.0 ≡ Some (tag_of word)
-    contained tags c = slice_get-get_or tags c.0 (tag_of word) c.1 ∙ ap Some c.2
-
--- a document of a settled volume has postings
-pub have_postings : (g : Layout) (cells : ℕ) (image : Image) (d : Document) → IsVolume cells image g
-    → IsSettled g image → Stands cells image d.slot d.id d.body → HasPostings g d.body
-have_postings g cells image d volume settled stands =
-    let done = stands.done.done in
-    (settled.met Trails (done_at d.slot) (record { found = done.cell; stands = done.stands }) d.slot d.id d.body refl
-    (subst (λ (n : ℕ). Stands n image d.slot d.id d.body) (sym volume.size) stands)).postings
-
--- so one that each term's list vouches for is that of a candidate
+-- a slot that each term's list vouches for is that of a candidate
 pub candidate_of : (g : Layout) (cells : ℕ) (image : Image) (documents : List Document)
     → AreDocuments cells image documents → (terms : List (List ℕ)) → 1 ≤ length terms → (slot : ℕ)
     → ((word : List ℕ) → Contains terms word → IsSlotOf (HasTagOf g word) documents slot)

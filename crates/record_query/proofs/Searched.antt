@@ -25,7 +25,8 @@ use Rattle.worm_device.proofs.Elapsing.{called_then}
 use Rattle.zigzag_join.specs.Joins.{AllOwe}
 use Rattle.recovery_engine.specs.Settling.{SettleEnds, Settles, SettlesFirst}
 use Rattle.recovery_engine.specs.declared.settling.Ready.{Ready}
-use Rattle.posting_list.specs.Joins.{TermsGather, TermsGatherReads}
+use Rattle.posting_list.specs.Joins.{TermsGather, TermsGatherReads, slots_of}
+use Rattle.document_store.specs.declared.part.Part.{Part}
 use Rattle.posting_list.specs.Laws.{KeptAreOwed}
 use Rattle.posting_list.specs.Naming.{IsReachOf}
 use Rattle.posting_list.specs.States.{lists_over}
@@ -155,7 +156,7 @@ module _ (owed : KeptAreOwed) (terms : List (List ℕ)) (r : Ready) (old settled
   abbrev these : List SoughtTerm
   these = sought r.volume.geometry.lists terms
 
-  abbrev gathers : Result (Vec ℕ) Refusal → Type 0
+  abbrev gathers : Result (Vec Part) Refusal → Type 0
   gathers result = TermsGather (reach_of r) these (seen_directly settled 0) (seen_directly mid 0) result
 
   abbrev gathers_briefly : Type 0
@@ -195,14 +196,17 @@ module _ (owed : KeptAreOwed) (terms : List (List ℕ)) (r : Ready) (old settled
     reads = briefly_gathered terms r old settled s mid seen few;
   }
 
-  module _ (slots : Vec ℕ) (g : gathers (Ok slots)) (new : DeviceState)
+  module _ (parts : Vec Part) (g : gathers (Ok parts)) (new : DeviceState)
       (then : Viewed (seen_directly mid 0) (seen_directly new 0)) where
     after : HasLooked r old settled new
     after = looked_more before then
 
+    abbrev slots : List ℕ
+    slots = slots_of parts.items
+
     abbrev found_among : List Match → Type 0
     found_among matches =
-        FoundAmong r.volume.geometry slots.items (length slots.items) terms mid.image new.image matches
+        FoundAmong r.volume.geometry slots (length slots) terms mid.image new.image matches
 
     -- to slot n lead the lists of all terms
     abbrev all_listed : ℕ → Type 0
@@ -230,10 +234,10 @@ module _ (owed : KeptAreOwed) (terms : List (List ℕ)) (r : Ready) (old settled
 
         -- so it was found
         kept_found : (matches : List Match)
-            → FoundAmong r.volume.geometry slots.items (length slots.items) terms mid.image new.image matches
+            → FoundAmong r.volume.geometry slots (length slots) terms mid.image new.image matches
             → HasMatch matches d.slot d.id d.body
         kept_found matches f =
-            let here = g.ends.all d.slot all_owe small in
+            let here = g.ends.0.all d.slot all_owe small in
             let held : HoldsDocument r.volume.geometry settled.image d.slot d.id d.body =
             stands_held r.volume.geometry settled.cells settled.image d.slot d.id d.body (is_ready before tells).volume
             kept.stands in
@@ -261,25 +265,24 @@ module _ (owed : KeptAreOwed) (terms : List (List ℕ)) (r : Ready) (old settled
             };
           }
 
-      -- so it was gathered, is done, and was looked at
+      -- so it was gathered, and its document was read
       listed_judged : (matches : List Match) → found_among matches → 1 ≤ length terms → (n : ℕ) → all_listed n
           → IsJudged new.cells new.image terms matches n
       listed_judged matches f some n each =
           let owe = listed_owe n each in
           let first = owe 0 (omega (arith, some, length-map terms (sought_of r.volume.geometry.lists))) in
-          let here = g.ends.all n owe (owed_small (reach_of r) first.term (seen_directly settled 0) n first.owed) in
-          let live = g.ends.live here.place here.inside in
+          let here = g.ends.0.all n owe (owed_small (reach_of r) first.term (seen_directly settled 0) n first.owed) in
           subst (IsJudged new.cells new.image terms matches) here.is
-          (⊎_elim (λ (h : HasMatchAt matches (slice_index slots.items here.place)). inl h)
-          (λ (o : HoldsOther r.volume.geometry new.image (slice_index slots.items here.place) terms). inr (record {
+          (⊎_elim (λ (h : HasMatchAt matches (slice_index slots here.place)). inl h)
+          (λ (o : HoldsOther r.volume.geometry new.image (slice_index slots here.place) terms). inr (record {
             id = o.id;
             body = o.body;
-            stands = held_stands r.volume.geometry new.cells new.image (slice_index slots.items here.place) o.id o.body
+            stands = held_stands r.volume.geometry new.cells new.image (slice_index slots here.place) o.id o.body
                 (volume_now after tells) o.holds;
             lacks = λ has. o.lacks (has_by has (one_layout {cells = new.cells} {more = new.cells} has.layout
                 r.volume.geometry has.volume (volume_now after tells)));
           }))
-          (f.judged here.place here.inside (live.1 (told tells))))
+          (f.judged here.place here.inside))
 
       led_judged : (matches : List Match) → found_among matches → 1 ≤ length terms → (n : ℕ)
           → IsLedTo settled.cells settled.image terms n → IsJudged new.cells new.image terms matches n
@@ -292,7 +295,7 @@ module _ (owed : KeptAreOwed) (terms : List (List ℕ)) (r : Ready) (old settled
 
       -- of documents that are kept once the volume was settled, those that have the terms
       all_found : (matches : List Match)
-          → FoundAmong r.volume.geometry slots.items (length slots.items) terms mid.image new.image matches
+          → FoundAmong r.volume.geometry slots (length slots) terms mid.image new.image matches
           → (documents : List Document) → Kept settled.cells settled.image documents
           → (d : Document) → Contains documents d → Matches (rule_of r.volume.geometry.version) d.body terms
           → HasMatch matches d.slot d.id d.body
@@ -334,7 +337,7 @@ module _ (owed : KeptAreOwed) (terms : List (List ℕ)) (r : Ready) (old settled
       }
 
     ends_of : (result : Result (Vec Match) Refusal)
-        → AmongEnds r.volume.geometry slots.items terms mid new result → 1 ≤ length terms
+        → AmongEnds r.volume.geometry slots terms mid new result → 1 ≤ length terms
         → FindEnds terms old new result
     ends_of (Ok matches) ends some = λ tells.
         finds tells matches.items (ends (told tells)) some
@@ -356,7 +359,7 @@ module _ (owed : KeptAreOwed) (terms : List (List ℕ)) (r : Ready) (old settled
 
     -- the evidence is by a rule of a slot's cells, or by that of its document
     rule_of_end : (result : Result (Vec Match) Refusal)
-        → AmongEnds r.volume.geometry slots.items terms mid new result → NamesFindRule old result
+        → AmongEnds r.volume.geometry slots terms mid new result → NamesFindRule old result
     rule_of_end (Ok matches) ends = tt
     rule_of_end (Err (Tampered e)) ends = λ tells. named (ends.refuses.2 (told tells)) where
       named : NamesDocument r.volume.geometry ends.n (seen_directly mid 0) (seen_directly new 0) e → IsFindRule e.rule
@@ -366,12 +369,12 @@ module _ (owed : KeptAreOwed) (terms : List (List ℕ)) (r : Ready) (old settled
 
     -- the slots were searched, or this was ended
     pub searched : (result : Result (Vec Match) Refusal)
-        → AmongEnds r.volume.geometry slots.items terms mid new result → 1 ≤ length terms → gathers_briefly
-        → ReadsEach r.volume.geometry slots.items mid new → Searches terms old new result
+        → AmongEnds r.volume.geometry slots terms mid new result → 1 ≤ length terms → gathers_briefly
+        → ReadsEach r.volume.geometry slots mid new → Searches terms old new result
     searched result ends some few each = record {
       called = called_then (called_then s.called seen.called) then.called;
       comes = comes_to_settled after;
       ends = ends_of result ends some;
       rule = rule_of_end result ends;
-      reads = briefly_searched terms r old settled s mid seen few some slots g new then each;
+      reads = briefly_searched terms r old settled s mid seen few some parts g new then each;
     }

@@ -8,9 +8,8 @@ use Rattle.cell_types.specs.declared.refusal.Refusal.TheVariants.{NoMemory}
 use Rattle.volume_meaning.specs.Words.{Matches, rule_of}
 use Rattle.worm_device.specs.State.{DeviceState}
 use Rattle.worm_device.specs.Views.{seen_directly}
-use Rattle.volume_meaning.specs.Slots.{IsDone, IsDoneSlot, cells_for}
-use Rattle.commit_record.specs.States.{stamp_cells}
-use Rattle.document_store.specs.Looks.{LookRefuses, ReadsOnce}
+use Rattle.volume_meaning.specs.Slots.{IsDone, cells_for}
+use Rattle.document_store.specs.Looks.{LookRefuses}
 use Rattle.document_store.specs.Standing.{HoldsDocument}
 use Rattle.record_query.specs.Finding.{HasMatch, HasMatchAt, MatchesRise}
 use Rattle.record_query.specs.Matching.{HoldsOther, IsMatchIn}
@@ -29,18 +28,14 @@ pub record IsMatchAmong (g : Layout) (image : Image) (slots : List ℕ) (k : ℕ
   pub at : slice_index slots place ≡ found.slot
   pub is : IsMatchIn g image found.slot terms found
 
--- the slots of the row are of the volume
-abbrev pub AreOfVolume : Layout → List ℕ → Type 0
-AreOfVolume g slots = (i : ℕ) → i < length slots → slice_index slots i < g.slots
-
 -- Each document that one of the first k slots of the row held, and that has the terms, has its match. Each of these
--- slots that was done has its match, or holds a document that lacks one of the terms. Each match tells of one that is
--- held; and slots rise.
+-- slots has its match, or holds a document that lacks one of the terms. Each match tells of one that is held; and slots
+-- rise.
 pub record FoundAmong (g : Layout) (slots : List ℕ) (k : ℕ) (terms : List (List ℕ)) (before after : Image)
     (matches : List Match) : Type 0 where
   pub all : (i : ℕ) (id body : List ℕ) → i < k → HoldsDocument g before (slice_index slots i) id body
       → Matches (rule_of g.version) body terms → HasMatch matches (slice_index slots i) id body
-  pub judged : (i : ℕ) → i < k → IsDoneSlot g before (slice_index slots i)
+  pub judged : (i : ℕ) → i < k
       → HasMatchAt matches (slice_index slots i) ⊎ HoldsOther g after (slice_index slots i) terms
   pub only : (found : Match) → Contains matches found → IsMatchAmong g after slots k terms found
   pub rise : MatchesRise 0 matches
@@ -64,18 +59,14 @@ row_cost cost [] k = 0
 row_cost cost (slot ∷ slots) zero = 0
 row_cost cost (slot ∷ slots) (suc k) = cost slot + row_cost cost slots k
 
--- so many reads are enough for the document of the slot, which is done: its cells, and those of the slot's state
+-- so many reads are enough for the document of the slot, which is done: one for each of its cells
 pub record IsSlotCost (g : Layout) (image : Image) (slot cost : ℕ) : Type 0 where
   pub start : ℕ
   pub reserved : ℕ
   pub bytes : ℕ
   pub journal : ℕ
   pub done : IsDone g image slot start reserved bytes journal
-  pub most : cells_for bytes + (3 + stamp_cells g) ≤ cost
-
--- A look at a slot reads the cells of its document once at most, and those of the slot's state.
-pub record LooksOnce (g : Layout) (slot : ℕ) (old new : DeviceState) : Type 0 where
-  pub reads : ReadsOnce g slot (seen_directly old 0) (seen_directly new 0)
+  pub most : cells_for bytes ≤ cost
 
 -- Going along the slots of a row, which are done, costs what its slots do, whatever is answered.
 abbrev pub ReadsEach : Layout → List ℕ → DeviceState → DeviceState → Type 0

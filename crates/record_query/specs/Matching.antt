@@ -1,10 +1,9 @@
 -- How a slot's document is read while words are sought in it.
-use Rattle.std.specs.Prelude.{◌≡◌, ◌<◌, ◌≤◌, ◌⊎◌, ℕ, List, ◌++◌, length, Option, Some, None, Result, Ok, Err, IsTrue}
+use Rattle.std.specs.Prelude.{◌≡◌, ◌<◌, ◌≤◌, ℕ, List, ◌++◌, length, Option, Some, None, Result, Ok, Err, IsTrue}
 use Rattle.cell_types.specs.Image.{Image}
 use Rattle.cell_types.specs.Layout.{Layout}
 use Rattle.cell_types.specs.declared.refusal.Refusal.{Refusal}
 use Rattle.cell_types.specs.declared.refusal.Refusal.TheVariants.{NoMemory}
-use Rattle.volume_meaning.specs.Slots.{IsDoneSlot}
 use Rattle.volume_meaning.specs.Words.{Matches, rule_of}
 use Rattle.volume_meaning.specs.declared.word_rules.WordRule.{WordRule}
 use Rattle.worm_device.specs.Counts.{Rose}
@@ -102,15 +101,11 @@ pub record HoldsOther (g : Layout) (image : Image) (n : ℕ) (terms : List (List
   pub holds : HoldsDocument g image n id body
   pub lacks : Matches (rule_of g.version) body terms → ⊥
 
--- slot n may be passed, as seen between two images: it was not done, or it holds a document that lacks one of the terms
-abbrev pub MayBePassed : Layout → Image → Image → ℕ → List (List ℕ) → Type 0
-MayBePassed g before after n terms = (IsDoneSlot g before n → ⊥) ⊎ HoldsOther g after n terms
-
--- how looking for the terms in the document of slot n may end, and why
+-- How looking for the terms in the document of slot n, which is done, may end, and why: it has them, or lacks one.
 abbrev pub SlotEnds : Layout → ℕ → List (List ℕ) → ViewState → ViewState → Result (Option Match) Refusal → Type 0
 SlotEnds g n terms old new (Ok (Some found)) =
     (new.base.faults ≡ old.base.faults) × (IsTrue old.base.tells → IsMatchIn g new.image n terms found)
 SlotEnds g n terms old new (Ok None) =
-    (new.base.faults ≡ old.base.faults) × (IsTrue old.base.tells → MayBePassed g old.image new.image n terms)
+    (new.base.faults ≡ old.base.faults) × (IsTrue old.base.tells → HoldsOther g new.image n terms)
 SlotEnds g n terms old new (Err NoMemory) = new.base.faults ≡ old.base.faults
 SlotEnds g n terms old new (Err refusal) = LookRefuses g n old new refusal

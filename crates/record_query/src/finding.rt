@@ -1,17 +1,20 @@
 //! All documents that have the words which are sought.
-ghost use Rattle.std.specs.Prelude.{◌≡◌, ◌<◌, ◌≤◌, ℕ, List, IfOk, length};
+ghost use Rattle.std.specs.Prelude.{◌≡◌, ◌≤◌, ◌+◌, ℕ, List, IfOk, length};
+ghost use Rattle.volume_meaning.specs.Slots.{cells_for};
 ghost use Rattle.volume_meaning.specs.Words.{rule_of};
 ghost use Rattle.worm_device.specs.Views.{Viewed, seen_directly};
 ghost use Rattle.zigzag_join.specs.Gathering.{GatheredRise};
-ghost use Rattle.record_query.specs.Among.{AmongEnds, AreOfVolume, LooksOnce, ReadsEach, added};
+ghost use Rattle.document_store.specs.Looks.{HasPart};
+ghost use Rattle.posting_list.specs.Joins.{HaveParts, slots_of};
+ghost use Rattle.record_query.specs.Among.{AmongEnds, ReadsEach, added};
 ghost use Rattle.record_query.specs.Finding.{Searches};
 ghost use Rattle.record_query.specs.Matching.{IsMatcherOf, KeepsTerms, SlotEnds};
 
-use crate::common::common_slots;
+use crate::common::common_parts;
 use crate::found::Match;
-use crate::matching::match_in;
-use cell_types::{NoMemory, Refusal, Volume, memory};
-use document_store::ROW_BYTES;
+use crate::matching::match_part;
+use cell_types::{Geometry, NoMemory, Refusal, memory};
+use document_store::{Part, ROW_BYTES};
 use posting_list::{SoughtTerms, kept_are_owed};
 use recovery_engine::settle;
 use std::alloc::Global;
@@ -44,55 +47,63 @@ pub fn find<D: Device>(alloc: Global, device: &mut D, terms: &[Term]) -> Result<
     let rule = rule_of(ready.volume.geometry.version());
     let sought = SoughtTerms::new(alloc, &ready.volume, terms)?;
     let mut matcher = Matcher::new(alloc, terms, rule)?;
-    let slots = common_slots(alloc, device, &ready, &sought)?;
-    find_among(alloc, device, &ready.volume, &slots, &mut matcher)
+    let parts = common_parts(alloc, device, &ready, &sought)?;
+    find_among(alloc, device, &ready.volume.geometry, &parts, &mut matcher)
 }
 
-/// The matches in the slots of a row.
+/// The matches in the slots of a row, each given by where its document lies.
 fn find_among<D: Device>(
     alloc: Global,
     device: &mut D,
-    volume: &Volume,
-    slots: &[u32],
+    geometry: &Geometry,
+    parts: &[Part],
     matcher: &mut Matcher,
 ) -> Result<Vec<Match>, Refusal>
-    requires rise { GatheredRise slots.now }
-    requires inside { AreOfVolume volume.now.geometry slots.now }
-    requires size { volume.now.geometry.cells ≤ (D.state device.old).cells }
+    requires rise { GatheredRise (slots_of parts.now) }
+    requires parts { HaveParts geometry.now (seen_directly (D.state device.old) 0) parts.now }
+    requires size { geometry.now.cells ≤ (D.state device.old).cells }
     ensures viewed { Viewed (seen_directly (D.state device.old) 0) (seen_directly (D.state device.new) 0) }
-    ensures reads { ReadsEach volume.now.geometry slots.now (D.state device.old) (D.state device.new) }
-    ensures ends { (terms : List (List ℕ)) → IsMatcherOf (rule_of volume.now.geometry.version) terms matcher.old
-        → AmongEnds volume.now.geometry slots.now terms (D.state device.old) (D.state device.new) result }
+    ensures reads { ReadsEach geometry.now (slots_of parts.now) (D.state device.old) (D.state device.new) }
+    ensures ends { (terms : List (List ℕ)) → IsMatcherOf (rule_of geometry.now.version) terms matcher.old
+        → AmongEnds geometry.now (slots_of parts.now) terms (D.state device.old) (D.state device.new) result }
 {
     let mut matches = Vec::new(alloc);
     // One row for all documents, which is cleared once.
     let mut row = [0; ROW_BYTES];
-    for place in 0..slots.len() {
-        let found = match_on_device(alloc, device, volume, slots[place], matcher, &mut row)?;
+    for place in 0..parts.len() {
+        let part = parts[place];
+        let found = match_on_device(alloc, device, geometry, &part, matcher, &mut row)?;
         keep(&mut matches, found)?;
     }
     Ok(matches)
 }
 
-/// The match in a slot of the device.
+/// The match in the part of a slot's document, on the device.
 fn match_on_device<D: Device>(
     alloc: Global,
     device: &mut D,
-    volume: &Volume,
-    slot: u32,
+    geometry: &Geometry,
+    part: &Part,
     matcher: &mut Matcher,
     row: &mut [u8; ROW_BYTES],
 ) -> Result<Option<Match>, Refusal>
-    requires slot { slot < volume.now.geometry.slots }
-    requires size { volume.now.geometry.cells ≤ (D.state device.old).cells }
+    requires size { geometry.now.cells ≤ (D.state device.old).cells }
+    requires part { HasPart geometry.now (seen_directly (D.state device.old) 0) part.now }
     ensures viewed { Viewed (seen_directly (D.state device.old) 0) (seen_directly (D.state device.new) 0) }
-    ensures reads { LooksOnce volume.now.geometry slot (D.state device.old) (D.state device.new) }
+    ensures reads { (D.state device.new).reads ≤ (D.state device.old).reads + cells_for part.now.bytes }
     ensures matcher { KeepsTerms matcher.old matcher.new }
-    ensures ends { (terms : List (List ℕ)) → IsMatcherOf (rule_of volume.now.geometry.version) terms matcher.old
-        → SlotEnds volume.now.geometry slot terms (seen_directly (D.state device.old) 0)
+    ensures ends { (terms : List (List ℕ)) → IsMatcherOf (rule_of geometry.now.version) terms matcher.old
+        → SlotEnds geometry.now part.now.slot terms (seen_directly (D.state device.old) 0)
         (seen_directly (D.state device.new) 0) result }
 {
-    match_in(alloc, &mut Direct::new(device), volume, slot, matcher, row)
+    match_part(
+        alloc,
+        &mut Direct::new(device),
+        geometry,
+        part,
+        matcher,
+        row,
+    )
 }
 
 /// Adds what was found.

@@ -6,15 +6,15 @@ ghost use Rattle.volume_meaning.specs.declared.word_rules.WordRule.{WordRule};
 ghost use Rattle.worm_device.specs.Views.{Viewed};
 ghost use Rattle.append_file.specs.Reading.{IsPosition};
 ghost use Rattle.word_reader.specs.Matching.{HasPushed};
-ghost use Rattle.document_store.specs.Looks.{IsPartOf, IsStated, ReadsOnce};
+ghost use Rattle.document_store.specs.Looks.{HasPart};
 ghost use Rattle.record_query.specs.Matching.{IsMatcherOf, KeepsTerms, PushNextEnds, SeekEnds, SlotEnds, seek_fault_of};
 ghost use Rattle.record_query.specs.declared.matching.SeekFault.TheVariants as seeks;
 
 use crate::found::Match;
-use cell_types::{Geometry, NoMemory, Refusal, Volume};
+use cell_types::{Geometry, NoMemory, Refusal};
 use document_store::{
     ContentFault, Head, Part, Position, ROW_BYTES, head_of_row, identifier_of_head, name_commit,
-    next_row, slot_part,
+    next_row,
 };
 use std::alloc::Global;
 use word_reader::Matcher;
@@ -50,32 +50,9 @@ impl From<NoMemory> for SeekFault {
     }
 }
 
-/// The match in a slot, if it is done and its document has each term of the matcher, by the volume's rule of words. Its
+/// The match in the part of a slot's document, if it has each term of the matcher, by the volume's rule of words. Its
 /// bytes go through the row.
-pub(crate) fn match_in<V: View>(
-    alloc: Global,
-    view: &mut V,
-    volume: &Volume,
-    slot: u32,
-    matcher: &mut Matcher,
-    row: &mut [u8; ROW_BYTES],
-) -> Result<Option<Match>, Refusal>
-    requires slot { slot < volume.now.geometry.slots }
-    requires size { volume.now.geometry.cells ≤ (V.seen view.old).cells }
-    ensures viewed { Viewed (V.seen view.old) (V.seen view.new) }
-    ensures reads { ReadsOnce volume.now.geometry slot (V.seen view.old) (V.seen view.new) }
-    ensures matcher { KeepsTerms matcher.old matcher.new }
-    ensures ends { (terms : List (List ℕ)) → IsMatcherOf (rule_of volume.now.geometry.version) terms matcher.old
-        → SlotEnds volume.now.geometry slot terms (V.seen view.old) (V.seen view.new) result }
-{
-    let Some(part) = slot_part(view, volume, slot)? else {
-        return Ok(None);
-    };
-    match_part(alloc, view, &volume.geometry, &part, matcher, row)
-}
-
-/// The match in the part of a slot's document, if it has each term of the matcher.
-fn match_part<V: View>(
+pub(crate) fn match_part<V: View>(
     alloc: Global,
     view: &mut V,
     geometry: &Geometry,
@@ -83,12 +60,8 @@ fn match_part<V: View>(
     matcher: &mut Matcher,
     row: &mut [u8; ROW_BYTES],
 ) -> Result<Option<Match>, Refusal>
-    requires slot { part.now.slot < geometry.now.slots }
     requires size { geometry.now.cells ≤ (V.seen view.old).cells }
-    requires inside { part.now.start + cells_for part.now.bytes ≤ geometry.now.cells }
-    requires stated { IsStated part.now }
-    requires part { IsTrue (V.seen view.old).base.tells
-        → IsPartOf geometry.now (V.seen view.old).image part.now.slot part.now }
+    requires part { HasPart geometry.now (V.seen view.old) part.now }
     ensures viewed { Viewed (V.seen view.old) (V.seen view.new) }
     ensures reads { (V.seen view.new).base.reads ≤ (V.seen view.old).base.reads + cells_for part.now.bytes }
     ensures matcher { KeepsTerms matcher.old matcher.new }

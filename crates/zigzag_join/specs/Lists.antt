@@ -1,5 +1,5 @@
 -- Lists of slots: what they are for contracts, and what their calls answer.
-use Rattle.std.specs.Prelude.{◌≡◌, ◌<◌, ◌≤◌, ◌+◌, ◌-◌, ◌*◌, ◌^◌, ℕ, Bool, List, Option, Some, None, Result, Ok, Err, IsTrue}
+use Rattle.std.specs.Prelude.{◌≡◌, ◌<◌, ◌≤◌, ◌+◌, ◌-◌, ◌*◌, ◌^◌, ℕ, Bool, List, Option, Some, None, Result, Ok, Err, IsTrue, ⊤}
 use Rattle.cell_types.specs.declared.geometry.TheConstants.{MAX_SLOTS}
 use Rattle.cell_types.specs.declared.refusal.Evidence.{Evidence}
 use Rattle.cell_types.specs.declared.refusal.Fault.{Fault}
@@ -102,6 +102,20 @@ LandEnds which from old new (Ok (Some landing)) =
     ListNextEnds which from old new (Ok (Some landing.slot)) × (IsTrue landing.vouched → new.vouches which landing.slot)
 LandEnds which from old new (Ok None) = ListNextEnds which from old new (Ok None)
 LandEnds which from old new (Err fault) = ListsFaultEnds old new fault
+
+-- this is known of the slot that is answered, if any
+abbrev pub KnowsNext : (ℕ → Type 0) → Result (Option ℕ) Fault → Type 0
+KnowsNext knows (Ok (Some n)) = knows n
+KnowsNext knows other = ⊤
+
+-- and of the one that a list has come to
+abbrev pub KnowsLanding : (ℕ → Type 0) → Result (Option Landing) Fault → Type 0
+KnowsLanding knows (Ok (Some landing)) = knows landing.slot
+KnowsLanding knows other = ⊤
+
+-- what was known of a slot is known still
+abbrev pub KnowsOn : (ℕ → Type 0) → (ℕ → Type 0) → Type 0
+KnowsOn old new = (slot : ℕ) → old slot → new slot
 
 -- what a list answers that is asked whether it has a slot
 abbrev pub HasEnds : ℕ → ℕ → ListsState → ListsState → Result Bool Fault → Type 0

@@ -3,20 +3,21 @@ ghost use Rattle.std.specs.Prelude.{◌≡◌, ◌≤◌, ◌<◌, ◌+◌, ◌^
 ghost use Rattle.cell_types.specs.declared.geometry.TheConstants.{MAX_SLOTS};
 ghost use Rattle.zigzag_join.specs.Counts.{JoinCosts};
 ghost use Rattle.zigzag_join.specs.Joins.{AllHaveEnds, AllVouch, HasAgreed, IsTurnAfter, JoinEnds};
-ghost use Rattle.zigzag_join.specs.Lists.{Keeps};
+ghost use Rattle.zigzag_join.specs.Lists.{Keeps, KnowsNext, KnowsOn};
 
 use crate::{Landing, Lists};
 use cell_types::{Fault, MAX_SLOTS};
 
 /// The next slot at or past one that all lists have, `None` where there is none. It passes no slot that no list may
 /// pass. Any one list bounds how often they all are asked, also where a fault comes. A fault is that of the list that
-/// was asked last.
+/// was asked last. Of the slot the lists know what they knew as one of them came to it last.
 pub fn next_common<Q: Lists>(lists: &mut Q, from: u32) -> Result<Option<u32>, Fault>
     requires some { 1 ≤ (Q.state lists.old).lists }
     requires from { from ≤ MAX_SLOTS }
     ensures kept { Keeps (Q.state lists.old) (Q.state lists.new) }
     ensures ends { JoinEnds from (Q.state lists.old) (Q.state lists.new) result }
     ensures costs { JoinCosts from (Q.state lists.old) (Q.state lists.new) result }
+    ensures knows { KnowsNext (Q.knows lists.new) result }
 {
     let count = lists.count();
     let mut which = 0;
@@ -78,6 +79,7 @@ fn all_agree<Q: Lists>(lists: &mut Q, count: u32, slot: u32, vouched: bool) -> R
     ensures kept { Keeps (Q.state lists.old) (Q.state lists.new) }
     ensures next_asks { (Q.state lists.new).next_asks ≤ (Q.state lists.old).next_asks }
     ensures has_asks { (Q.state lists.new).has_asks ≤ (Q.state lists.old).has_asks + count }
+    ensures knows { KnowsOn (Q.knows lists.old) (Q.knows lists.new) }
     ensures ends { AllHaveEnds slot (Q.state lists.old) (Q.state lists.new) result }
 {
     if vouched {
@@ -93,6 +95,7 @@ fn all_have<Q: Lists>(lists: &mut Q, count: u32, slot: u32) -> Result<bool, Faul
     ensures kept { Keeps (Q.state lists.old) (Q.state lists.new) }
     ensures next_asks { (Q.state lists.new).next_asks ≤ (Q.state lists.old).next_asks }
     ensures has_asks { (Q.state lists.new).has_asks ≤ (Q.state lists.old).has_asks + count }
+    ensures knows { KnowsOn (Q.knows lists.old) (Q.knows lists.new) }
     ensures ends { AllHaveEnds slot (Q.state lists.old) (Q.state lists.new) result }
 {
     for which in 0..count {

@@ -13,7 +13,9 @@
 //! which it **vouches**. The join passes no slot that no list may pass, and each list vouches for its answer, which is
 //! live: a list comes to live slots alone. Where
 //! `next` lands is never taken for such a slot: `has` decides, and where it says no, the join goes on by one. A list may
-//! tell as it lands that it vouches for the slot (`land`); where all of them do, none is asked whether it has it.
+//! tell as it lands that it vouches for the slot (`land`); where all of them do, none is asked whether it has it. What
+//! the lists learn of a slot as one of them comes to it they may keep until the next: the answer is the slot that a
+//! list has come to last, so they know it of the answer (`knows`).
 //!
 //! **What it costs.** Take any one list, and say that it has m slots from where the join begins up to the answer, or to
 //! the end where there is none. Then the join asks at most `count * (m + 1)` times for a next slot, and at most

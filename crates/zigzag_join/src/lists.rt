@@ -1,7 +1,18 @@
 //! Lists of slots that can be asked for the next slot at or past one, and whether they have one.
-ghost use Rattle.std.specs.Prelude.{◌≡◌, ◌<◌, ◌≤◌};
+ghost use Rattle.std.specs.Prelude.{◌≡◌, ◌<◌, ◌≤◌, ℕ};
 ghost use Rattle.cell_types.specs.declared.geometry.TheConstants.{MAX_SLOTS};
-ghost use Rattle.zigzag_join.specs.Lists.{ListsState, Keeps, ListNextEnds, LandEnds, HasEnds, AsksNext, AsksHas};
+ghost use Rattle.zigzag_join.specs.Lists.{
+  ListsState,
+  Keeps,
+  ListNextEnds,
+  LandEnds,
+  HasEnds,
+  AsksNext,
+  AsksHas,
+  KnowsLanding,
+  KnowsNext,
+  KnowsOn,
+};
 
 use cell_types::Fault;
 
@@ -19,6 +30,9 @@ pub trait Lists {
     /// they may name as evidence, and how many reads an ask may cost.
     ghost state: { Self → ListsState };
 
+    /// What the lists know of a slot that one of them has come to, until one of them is asked for its next slot again.
+    ghost knows: { Self → ℕ → Type 0 };
+
     /// How many lists there are.
     fn count(&self) -> u32
         ensures count { result ≡ (state self.now).lists };
@@ -30,6 +44,7 @@ pub trait Lists {
         requires from { from ≤ MAX_SLOTS }
         ensures kept { Keeps (state self.old) (state self.new) }
         ensures asks { AsksNext (state self.old) (state self.new) }
+        ensures knows { KnowsNext (knows self.new) result }
         ensures ends { ListNextEnds which from (state self.old) (state self.new) result };
 
     /// The same as `next`, which a list may know more of: one that vouches for the slot need not be asked whether it has
@@ -39,6 +54,7 @@ pub trait Lists {
         requires from { from ≤ MAX_SLOTS }
         ensures kept { Keeps (state self.old) (state self.new) }
         ensures asks { AsksNext (state self.old) (state self.new) }
+        ensures knows { KnowsLanding (knows self.new) result }
         ensures ends { LandEnds which from (state self.old) (state self.new) result }
     {
         let Some(slot) = self.next(which, from)? else {
@@ -50,11 +66,13 @@ pub trait Lists {
         }))
     }
 
-    /// Whether a list has the slot. It has each slot that it must not pass, and vouches for each that it has.
+    /// Whether a list has the slot. It has each slot that it must not pass, and vouches for each that it has. What the
+    /// lists know of a slot they go on knowing.
     fn has(&mut self, which: u32, slot: u32) -> Result<bool, Fault>
         requires which { which < (state self.old).lists }
         requires slot { slot < MAX_SLOTS }
         ensures kept { Keeps (state self.old) (state self.new) }
         ensures asks { AsksHas (state self.old) (state self.new) }
+        ensures knows { KnowsOn (knows self.old) (knows self.new) }
         ensures ends { HasEnds which slot (state self.old) (state self.new) result };
 }

@@ -20,34 +20,37 @@ returns-in_default-clause-next g c =
     (rw c.in_default.is at c.in_ok-found.ensures.finds)
 
 -- the slot's cells give no answer
-pub returns-in_err-live-clause-kept : goal.returns-in_err-live-clause-kept
-returns-in_err-live-clause-kept g c = keeps_on c.find_in_list.new.kept _ _ c.is_live.ensures.live.viewed c.find_in_list.ensures.kept
+pub returns-in_err-part-clause-kept : goal.returns-in_err-part-clause-kept
+returns-in_err-part-clause-kept g c =
+    keeps_on c.find_in_list.new.kept _ _ c.live_part.ensures.live.viewed c.find_in_list.ensures.kept
 
-pub returns-in_err-live-clause-next : goal.returns-in_err-live-clause-next
-returns-in_err-live-clause-next g c =
-    rw (handed c.from_residual-in_err-live.result c.in_err-live.field-0.0 c.from_residual-in_err-live.ensures.1)
+pub returns-in_err-part-clause-next : goal.returns-in_err-part-clause-next
+returns-in_err-part-clause-next g c =
+    rw (handed c.from_residual-in_err-part.result c.in_err-part.field-0.0 c.from_residual-in_err-part.ensures.1)
     (next_live_fault c.args.reach.now c.args.term.now c.args.from (g.V.View.seen c.args.view.now)
-    (g.V.View.seen c.find_in_list.new.view) (g.V.View.seen c.is_live.new.view) c.requires.list c.in-Some.entry
-    (rw c.in-Some.is at c.in_ok-found.ensures.finds) c.in_err-live.field-0.0 c.in_err-live.ensures.live)
+    (g.V.View.seen c.find_in_list.new.view) (g.V.View.seen c.live_part.new.view) c.requires.list c.in-Some.entry
+    (rw c.in-Some.is at c.in_ok-found.ensures.finds) c.in_err-part.field-0.0 c.in_err-part.ensures.live)
 
 -- the posting's slot is not live
-pub returns-then-not-live-clause-kept : goal.returns-then-not-live-clause-kept
-returns-then-not-live-clause-kept g c = keeps_on c.find_in_list.new.kept _ _ c.is_live.ensures.live.viewed c.find_in_list.ensures.kept
+pub returns-in_default-2-clause-kept : goal.returns-in_default-2-clause-kept
+returns-in_default-2-clause-kept g c =
+    keeps_on c.find_in_list.new.kept _ _ c.live_part.ensures.live.viewed c.find_in_list.ensures.kept
 
-pub returns-then-not-live-clause-next : goal.returns-then-not-live-clause-next
-returns-then-not-live-clause-next g c =
+pub returns-in_default-2-clause-next : goal.returns-in_default-2-clause-next
+returns-in_default-2-clause-next g c =
     next_false c.args.reach.now c.args.term.now c.args.from (g.V.View.seen c.args.view.now)
-    (g.V.View.seen c.find_in_list.new.view) (g.V.View.seen c.is_live.new.view) c.requires.list c.in-Some.entry
+    (g.V.View.seen c.find_in_list.new.view) (g.V.View.seen c.live_part.new.view) c.requires.list c.in-Some.entry
     (rw c.in-Some.is at c.in_ok-found.ensures.finds) c.false_posting.result
-    (rw c.if-not-live.true at c.in_ok-live.ensures.live) c.false_posting.ensures
+    (rw c.in_default-2.is at c.in_ok-part.ensures.live) c.false_posting.ensures
 
 -- it is
 pub returns-clause-kept : goal.returns-clause-kept
-returns-clause-kept g c = keeps_on c.find_in_list.new.kept _ _ c.is_live.ensures.live.viewed c.find_in_list.ensures.kept
+returns-clause-kept g c =
+    keeps_on c.find_in_list.new.kept _ _ c.live_part.ensures.live.viewed c.find_in_list.ensures.kept
 
 pub returns-clause-next : goal.returns-clause-next
 returns-clause-next g c =
     next_some c.args.reach.now c.args.term.now c.args.from (g.V.View.seen c.args.view.now)
-    (g.V.View.seen c.find_in_list.new.view) (g.V.View.seen c.is_live.new.view) c.requires.list c.in-Some.entry
-    (rw c.in-Some.is at c.in_ok-found.ensures.finds) c.is_same.result c.is_same.ensures.0 (search rules)
-    (rw c.if-not-live.false at c.in_ok-live.ensures.live)
+    (g.V.View.seen c.find_in_list.new.view) (g.V.View.seen c.live_part.new.view) c.requires.list c.in-Some.entry
+    (rw c.in-Some.is at c.in_ok-found.ensures.finds) c.in-Some-2.part c.is_same.result c.is_same.ensures.0
+    (search rules) (rw c.in-Some-2.is at c.in_ok-part.ensures.live)

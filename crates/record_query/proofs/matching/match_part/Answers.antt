@@ -36,7 +36,8 @@ returns-in-Err-Broken-clause-ends g c = λ terms was.
     rw c.from.ensures
     (rw c.name_commit.ensures
     (refused layout part.slot terms old new (commit_breach part)
-    (names_commit_before layout old new part c.in-Err-Broken.ensures.viewed c.requires.slot broken.0 c.requires.part broken.1)))
+    (names_commit_before layout old new part c.in-Err-Broken.ensures.viewed c.requires.part.slot broken.0 c.requires.part.is
+    broken.1)))
 
 -- a document without the terms
 pub returns-in_default-clause-ends : goal.returns-in_default-clause-ends
@@ -45,7 +46,7 @@ returns-in_default-clause-ends g c = λ terms was.
     (g.V.View.seen c.args.view.now) (g.V.View.seen c.seek.new.view) c.args.matcher.now (Ok f)) c.in_default.is
     c.in-Ok.ensures.ends in
     no_match c.args.geometry.now c.args.part.now terms c.args.matcher.now was c.in-Ok.ensures.viewed ends.0
-    c.requires.part ends.1
+    c.requires.part.is ends.1
 
 -- a document with the terms
 pub identifier_of_head-requires : goal.identifier_of_head-requires
@@ -68,4 +69,4 @@ returns-clause-ends g c = λ terms was.
     (g.V.View.seen c.args.view.now) (g.V.View.seen c.seek.new.view) c.args.matcher.now (Ok f)) c.in-Some.is
     c.in-Ok.ensures.ends in
     found_match c.args.geometry.now c.args.part.now terms c.args.matcher.now was c.in-Ok.ensures.viewed ends.0
-    c.requires.part c.in-Some.head _ ends.1 refl c.in_ok-identifier.ensures refl
+    c.requires.part.is c.in-Some.head _ ends.1 refl c.in_ok-identifier.ensures refl

@@ -1,7 +1,8 @@
 -- What the search for the next slot says, of the lists.
 use Rattle.std.proofs.Common.{arith, refl, rules}
+use Rattle.cell_types.proofs.Passed.{handed}
 use Rattle.worm_device.proofs.Resting.{viewed_self}
-use Rattle.posting_list.proofs.Joining.{keeps_next, land_ends, none_owed}
+use Rattle.posting_list.proofs.Joining.{keeps_next, knows_landed, land_fails, land_none, land_some, none_owed}
 use Rattle.posting_list.proofs.Owed.{owed_small}
 use Rattle.posting_list.proofs.joined.TermListsLists.land.Goals as goal
 
@@ -29,6 +30,38 @@ returns-in_default-clause-kept g c =
     keeps_next c.args.self.now.reach c.args.self.now.sought.now.terms.items c.args.self.now.view.ghost_name seen seen
     _ _ _ _ (viewed_self seen) (search rules) refl (search rules) (omega arith)
 
+-- the search gives no answer
+pub returns-in_err-found-clause-kept : goal.returns-in_err-found-clause-kept
+returns-in_err-found-clause-kept g c =
+    keeps_next c.args.self.now.reach c.args.self.now.sought.now.terms.items c.args.self.now.view.ghost_name
+    (g.V.View.seen c.args.self.now.view.now)
+    (g.V.View.seen c.next_of_own.new.view) _ _ _ _ c.next_of_own.ensures.next.viewed (search rules) refl (search rules)
+    c.next_of_own.ensures.reads
+
+pub returns-in_err-found-clause-ends : goal.returns-in_err-found-clause-ends
+returns-in_err-found-clause-ends g c =
+    rw (handed c.from_residual.result c.in_err-found.field-0.0 c.from_residual.ensures.1)
+    (land_fails c.args.self.now.reach c.args.self.now.sought.now.terms.items c.args.self.now.view.ghost_name
+    (g.V.View.seen c.args.self.now.view.now)
+    (g.V.View.seen c.next_of_own.new.view) 0 0 0 0 c.args.which c.in-Some.term c.in-Some.ensures.there c.args.from
+    c.in_err-found.field-0.0 c.in_err-found.ensures.next)
+
+-- there is no slot
+pub returns-in_default-found-clause-kept : goal.returns-in_default-found-clause-kept
+returns-in_default-found-clause-kept g c =
+    keeps_next c.args.self.now.reach c.args.self.now.sought.now.terms.items c.args.self.now.view.ghost_name
+    (g.V.View.seen c.args.self.now.view.now)
+    (g.V.View.seen c.next_of_own.new.view) _ _ _ _ c.next_of_own.ensures.next.viewed (search rules) refl (search rules)
+    c.next_of_own.ensures.reads
+
+pub returns-in_default-found-clause-ends : goal.returns-in_default-found-clause-ends
+returns-in_default-found-clause-ends g c =
+    land_none c.args.self.now.reach c.args.self.now.sought.now.terms.items c.args.self.now.view.ghost_name
+    (g.V.View.seen c.args.self.now.view.now)
+    (g.V.View.seen c.next_of_own.new.view) 0 0 0 0 c.args.which c.in-Some.term c.in-Some.ensures.there c.args.from
+    (rw c.in_default-found.is at c.in_ok-found.ensures.next)
+
+-- there is one
 pub returns-clause-kept : goal.returns-clause-kept
 returns-clause-kept g c =
     keeps_next c.args.self.now.reach c.args.self.now.sought.now.terms.items c.args.self.now.view.ghost_name
@@ -38,7 +71,13 @@ returns-clause-kept g c =
 
 pub returns-clause-ends : goal.returns-clause-ends
 returns-clause-ends g c =
-    land_ends c.args.self.now.reach c.args.self.now.sought.now.terms.items c.args.self.now.view.ghost_name
+    land_some c.args.self.now.reach c.args.self.now.sought.now.terms.items c.args.self.now.view.ghost_name
     (g.V.View.seen c.args.self.now.view.now)
     (g.V.View.seen c.next_of_own.new.view) 0 0 0 0 c.args.which c.in-Some.term c.in-Some.ensures.there c.args.from
-    c.next_of_own.result c.next_of_own.ensures.next
+    c.in-Some-found.landed (rw c.in-Some-found.is at c.in_ok-found.ensures.next)
+
+pub returns-clause-knows : goal.returns-clause-knows
+returns-clause-knows g c =
+    knows_landed c.args.self.now.reach c.in-Some.term c.args.from (g.V.View.seen c.args.self.now.view.now)
+    (g.V.View.seen c.next_of_own.new.view) c.in-Some-found.landed
+    (rw c.in-Some-found.is at c.in_ok-found.ensures.next)

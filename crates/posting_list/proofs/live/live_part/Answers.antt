@@ -2,7 +2,7 @@
 use Rattle.std.proofs.Common.{arith}
 use Rattle.cell_types.proofs.Passed.{handed}
 use Rattle.posting_list.proofs.Evidence.{live_fault, live_not, live_state}
-use Rattle.posting_list.proofs.live.is_live.Goals as goal
+use Rattle.posting_list.proofs.live.live_part.Goals as goal
 
 -- the slot is at or past the horizon
 pub returns-then-slot-min-clause-live : goal.returns-then-slot-min-clause-live
@@ -18,6 +18,7 @@ returns-in_err-state-clause-live g c =
 
 -- or they are a state
 pub returns-clause-live : goal.returns-clause-live
-returns-clause-live g c = live_state c.args.reach.now c.args.slot _ _ c.in_ok-state.state c.is_done.result
+returns-clause-live g c = rw c.part_of_state.ensures
+    (live_state c.args.reach.now c.args.slot _ _ c.in_ok-state.state
     (omega (arith, c.if-slot-min.false, c.min.ensures, c.slots.ensures.slots)) c.slot_state.ensures.viewed
-    c.in_ok-state.ensures.ends c.is_done.ensures
+    c.in_ok-state.ensures.ends)

@@ -5,7 +5,7 @@ use Rattle.posting_list.specs.Joins.{TermsGather, TermsGatherReads}
 use Rattle.record_query.specs.Reaching.{reach_of}
 use Rattle.record_query.proofs.Gathered.{gathers_by_any, gathers_then, reads_by_any, reads_then}
 use Rattle.record_query.proofs.Loans.{viewed_by_any}
-use Rattle.record_query.proofs.common.common_slots.Goals as goal
+use Rattle.record_query.proofs.common.common_parts.Goals as goal
 
 pub returns-clause-viewed : goal.returns-clause-viewed
 returns-clause-viewed g c =
