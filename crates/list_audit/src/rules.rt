@@ -10,8 +10,8 @@
 //!     cell 37     blank               rule 13 is broken at cell 6: nothing stands at the place of key 1
 //!     cell 292    key 0, last 1       rule 9 is broken there: `hello` is of list 0, and 292 is a place of list 1
 //!
-//! What a document is owed is made again from its body, as an ingest makes it. A document that would have more than 256
-//! postings in one list has none, and breaks rule 13.
+//! What a document is owed is made again from its body, as an ingest makes it, but that keys of words are kept from one
+//! document to the next. A document that would have more than 256 postings in one list has none, and breaks rule 13.
 //!
 //! **Rule 9** is asked of each posting in each block. So what all documents are owed is put into one row in order, and a
 //! posting is looked up by all that it says: its list, its key, its greatest ordinal and its tag. That costs 16 bytes a
@@ -50,7 +50,7 @@ use host_ports::{Meter, Work};
 use log_audit::{KeptCells, KeptVolume, StoredSlot};
 use std::alloc::Global;
 use tamper_rules::MISSING_TRAIL;
-use term_tags::ListedPosting;
+use term_tags::{KnownKeys, ListedPosting};
 
 /// The first done cell at which rule 13 is broken, by what documents are owed, where the rules of lower numbers are
 /// kept. The meter is shown how many of the slots' checks are made, of which this is the second one of each.
@@ -147,7 +147,8 @@ fn keeps_trail_rule(
     requires pointers { IsMetAll geometry.now (image_of_kept kept.now) Pointers }
     ensures { IfOk result (λ keeps. IsTrue keeps ↔ KeepsTrailRule geometry.now (image_of_kept kept.now) slot.now.slot) }
 {
-    let found = postings_of(alloc, kept, geometry, slot)?;
+    let mut known = KnownKeys::for_one_document(alloc, geometry.lists())?;
+    let found = postings_of(alloc, kept, geometry, slot, &mut known)?;
     let Some(rows) = found else {
         return Ok(false);
     };

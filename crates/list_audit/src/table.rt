@@ -13,7 +13,7 @@ use cell_types::{NoMemory, RecordCell, address_of, decode, memory};
 use host_ports::{Meter, Work};
 use log_audit::{KeptCells, KeptVolume, StoredSlot};
 use std::alloc::Global;
-use term_tags::ListedPosting;
+use term_tags::{KnownKeys, ListedPosting};
 
 /// How far the numbers of the postings of a list lie from those of the next.
 pub(crate) const LIST_STEP: u64 = 1_099_511_627_776;
@@ -125,9 +125,9 @@ fn is_same_row(row: &(u64, [u8; 6]), other: &(u64, [u8; 6])) -> bool
     *row == *other
 }
 
-/// What the documents of a volume are owed, where rule 4 is kept. It takes 16 bytes a posting, and what one document's
-/// words and postings take while they are made. The meter is shown how many of the slots' checks are made, of which this
-/// is the first one of each.
+/// What the documents of a volume are owed, where rule 4 is kept. It takes 16 bytes a posting, and while they are made
+/// what one document's words and postings take, and 768 KiB for keys of words. The meter is shown how many of the slots'
+/// checks are made, of which this is the first one of each.
 ///
 /// # Errors
 ///
@@ -141,6 +141,7 @@ pub fn owed_postings<M: Meter>(
     ensures { IfOk result (λ owed. IsAllOwed volume.now owed) }
 {
     let mut table = PostingTable::with_room(alloc, volume)?;
+    let mut known = KnownKeys::for_many_documents(alloc, volume.geometry.lists())?;
     let mut all_exist = true;
     let checks = (volume.log.slots.len() as u64).saturating_mul(2);
     for slot in 0..volume.geometry.slots() {
@@ -148,7 +149,7 @@ pub fn owed_postings<M: Meter>(
             continue;
         };
         meter.show(Work::Checking, u64::from(slot), checks);
-        let found = postings_of(alloc, &volume.kept, &volume.geometry, &stored)?;
+        let found = postings_of(alloc, &volume.kept, &volume.geometry, &stored, &mut known)?;
         let Some(rows) = found else {
             all_exist = false;
             continue;

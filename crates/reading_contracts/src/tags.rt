@@ -1,11 +1,13 @@
 //! The postings of a document.
-ghost use Rattle.std.specs.Prelude.{◌<◌, ◌≤◌, IfErr, IfOk};
+ghost use Rattle.std.specs.Prelude.{◌≡◌, ◌<◌, ◌≤◌, IfErr, IfOk};
 ghost use Rattle.cell_types.specs.declared.geometry.TheConstants.{MAX_SLOTS};
 ghost use Rattle.term_tags.specs.Listing.{GivesListed, GivesNone, GivesPostings};
 
 use cell_types::Refusal;
 use std::alloc::Global;
-use term_tags::{ListedPosting, Posting, document_postings, postings};
+use term_tags::{
+    KnownKeys, ListedPosting, Posting, document_postings, document_postings_by, postings,
+};
 use word_reader::Term;
 
 /// `postings`.
@@ -31,4 +33,20 @@ pub fn document_postings_again(
     ensures err { IfErr result (GivesNone lists terms.now) }
 {
     document_postings(alloc, terms, lists, slot, stamp)
+}
+
+/// `document_postings_by`.
+pub fn document_postings_by_again(
+    alloc: Global,
+    terms: &[Term],
+    known: &mut KnownKeys,
+    slot: u32,
+    stamp: Option<u32>,
+) -> Result<Vec<ListedPosting>, Refusal>
+    requires { slot < MAX_SLOTS }
+    ensures ok { IfOk result (λ rows. GivesListed known.old slot stamp terms.now rows.items) }
+    ensures err { IfErr result (GivesNone known.old terms.now) }
+    ensures same { known.new ≡ known.old }
+{
+    document_postings_by(alloc, terms, known, slot, stamp)
 }

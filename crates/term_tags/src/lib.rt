@@ -17,6 +17,9 @@
 //! 00002cf24dba5fb0, 0000486ea46224d1, 00012c26b46b68ff. `postings` sorts these keys, drops those that stand twice, counts
 //! those of each list, and gives each its ordinal.
 //!
+//! Most words have come before, and then the digest is not made again: `KnownKeys` holds keys of words, of one document's
+//! or of those of many. Whoever makes the postings of many documents hands it on from one to the next.
+//!
 //! **In an index** a posting has a list and a key of its own: 256 times the document's slot, plus the ordinal. On a volume of stamped
 //! documents there is one more, in the time list, which is behind the lists of words: its key is the stamp, in seconds,
 //! and its tag names the slot. So `document_postings` gives of this body in slot 258, stamped with second 1000:
@@ -27,17 +30,20 @@
 //!     list 2    key  1000    last 255    tag 000001020000
 //!
 //! Stands on `word_reader` for terms and on `volume_meaning` for digests, whose `specs/Postings.antt` says which postings
-//! a document has. Begin with `digests.rt`, then `rows.rt` and `listing.rt`; `specs/Listing.antt` says what an answer
+//! a document has. Begin with `digests.rt`, then `known_keys.rt`, `rows.rt` and `listing.rt`; `specs/Listing.antt` says what an answer
 //! means.
 #![tactic(auto)]
 
 mod digests;
 mod keys;
+mod known_keys;
 mod laws;
 mod listing;
 mod rows;
+mod short_word;
 
 pub use digests::{list_of, tag};
+pub use known_keys::KnownKeys;
 pub use laws::too_many_is_one;
-pub use listing::{ListedPosting, document_postings};
+pub use listing::{ListedPosting, document_postings, document_postings_by};
 pub use rows::{MAX_TAGS, Posting, postings};

@@ -5,7 +5,8 @@ ghost use Rattle.cell_types.specs.declared.geometry.TheConstants.{MAX_SLOTS};
 ghost use Rattle.volume_meaning.specs.Postings.{time_posting};
 ghost use Rattle.term_tags.specs.Listing.{GivesNone, GivesListed, listed, time_entries};
 
-use crate::rows::{Posting, postings};
+use crate::known_keys::KnownKeys;
+use crate::rows::{Posting, postings_by};
 use cell_types::{NoMemory, Refusal, memory};
 use std::alloc::Global;
 use std::marker::Model;
@@ -82,7 +83,25 @@ pub fn document_postings(
     ensures ok { IfOk result (λ rows. GivesListed lists slot stamp terms.now rows.items) }
     ensures err { IfErr result (GivesNone lists terms.now) }
 {
-    let of_words = postings(alloc, terms, lists)?;
+    let mut known = KnownKeys::for_one_document(alloc, lists)?;
+    document_postings_by(alloc, terms, &mut known, slot, stamp)
+}
+
+/// The same for the lists of keys that are known: a word with such a key is not digested, and others become known.
+pub fn document_postings_by(
+    alloc: Global,
+    terms: &[Term],
+    known: &mut KnownKeys,
+    slot: u32,
+    stamp: Option<u32>,
+) -> Result<Vec<ListedPosting>, Refusal>
+    requires { slot < MAX_SLOTS }
+    ensures ok { IfOk result (λ rows. GivesListed known.old slot stamp terms.now rows.items) }
+    ensures err { IfErr result (GivesNone known.old terms.now) }
+    ensures same { known.new ≡ known.old }
+{
+    let lists = known.lists();
+    let of_words = postings_by(alloc, terms, known)?;
     let rows = list_all(alloc, &of_words, lists, slot, stamp)?;
     Ok(rows)
 }

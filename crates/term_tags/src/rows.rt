@@ -4,6 +4,7 @@ ghost use Rattle.term_tags.specs.Keys.{AreInLists};
 ghost use Rattle.term_tags.specs.Listing.{AreCounts, AllFit, GivesNone, GivesPostings, IsFirstOver, posting_rows};
 
 use crate::keys::{distinct_keys, list_in, tag_in};
+use crate::known_keys::KnownKeys;
 use cell_types::{NoMemory, Refusal, memory};
 use std::alloc::Global;
 use word_reader::Term;
@@ -27,7 +28,22 @@ pub fn postings(alloc: Global, terms: &[Term], lists: u16) -> Result<Vec<Posting
     ensures ok { IfOk result (λ rows. GivesPostings lists terms.now rows.items) }
     ensures err { IfErr result (GivesNone lists terms.now) }
 {
-    let keys = distinct_keys(alloc, terms, lists)?;
+    let mut known = KnownKeys::for_one_document(alloc, lists)?;
+    postings_by(alloc, terms, &mut known)
+}
+
+/// The same for the lists of keys that are known, with more of them known then.
+pub(crate) fn postings_by(
+    alloc: Global,
+    terms: &[Term],
+    known: &mut KnownKeys,
+) -> Result<Vec<Posting>, Refusal>
+    ensures ok { IfOk result (λ rows. GivesPostings known.old terms.now rows.items) }
+    ensures err { IfErr result (GivesNone known.old terms.now) }
+    ensures same { known.new ≡ known.old }
+{
+    let lists = known.lists();
+    let keys = distinct_keys(alloc, terms, known)?;
     memory::count_of(&keys)?;
     let counts = count_each(alloc, &keys, lists)?;
     if let Some((list, count)) = first_over(&counts, lists) {

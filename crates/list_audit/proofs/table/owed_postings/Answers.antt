@@ -1,5 +1,5 @@
 -- A slot that is not stored, one without postings, one with its postings, and all of them.
-use Rattle.std.proofs.Common.{◌≡◌, ℕ, true, false, inr, sym, subst, arith}
+use Rattle.std.proofs.Common.{◌≡◌, ◌∙◌, ℕ, true, false, inr, sym, subst, arith}
 use Rattle.log_audit.specs.KeptVolumes.{image_in}
 use Rattle.document_store.specs.Standing.{HoldsDocument}
 use Rattle.list_audit.specs.Bodies.{AreRowsOf, HasNoRows}
@@ -15,6 +15,7 @@ loop-slot-preserved-in_default _ c =
       nothing_more g image n c.loop-slot.table.rows.items c.loop-slot.invariant.0 (not_stored_owes g image n c.in_default.ensures.none),
       λ all. one_exists g image n (c.loop-slot.invariant.1 all)
           (λ id body h. absurd (c.in_default.ensures.none _ _ _ _ (record { commits = h.done.commits; done = inr h.done.done }))),
+      c.loop-slot.invariant.2,
     )
 
 pub loop-slot-preserved-in_default-found : goal.loop-slot-preserved-in_default-found
@@ -24,6 +25,7 @@ loop-slot-preserved-in_default-found _ c =
           (subst (HasNoRows g image) c.in-Some.ensures.same
           (none_of (HasNoRows g image c.in-Some.stored.slot) c.in_ok-found.found c.in_ok-found.ensures.none (c.in_default-found).is))),
       λ all. absurd (clash all),
+      c.in_ok-found.ensures.same ∙ c.loop-slot.invariant.2,
     )
   where
     clash : false ≡ true → ⊥
@@ -41,11 +43,15 @@ loop-slot-preserved _ c =
           (subst (λ (k : ℕ). HoldsDocument g image k d.0 d.1) c.in-Some.ensures.same d.2) here
           c.loop-slot.invariant.0 c.in_ok-add_all.ensures,
       λ all. one_exists g image n (c.loop-slot.invariant.1 all) (λ id body h. (here id body h).2.exist),
+      c.in_ok-found.ensures.same ∙ c.loop-slot.invariant.2,
     )
 
 pub loop-slot-init : goal.loop-slot-init
-loop-slot-init _ c =
-    (none_yet c.args.volume.now.geometry (image_in c.args.volume.now) _ c.in_ok-table.ensures, λ all m id body less. absurd (omega (arith, less)))
+loop-slot-init _ c = (
+  none_yet c.args.volume.now.geometry (image_in c.args.volume.now) _ c.in_ok-table.ensures,
+  λ all m id body less. absurd (omega (arith, less)),
+  c.in_ok-known.ensures ∙ c.lists.ensures.lists,
+)
 
 pub returns : goal.returns
 returns _ c =

@@ -7,17 +7,17 @@ use Rattle.std.proofs.lemmas.List.Sorted.{Contains-permutation, IsPermutation-sy
 use Rattle.std.proofs.lemmas.Map.Keys.{IsStrictlyIncreasing-dedup}
 use Rattle.term_tags.proofs.keys.distinct_keys.Goals as goal
 
-pub returns : goal.returns
-returns c =
+pub returns-clause-keys : goal.returns-clause-keys
+returns-clause-keys c =
     let is = dedup_is _ _ _ c.dedup.ensures.filtered in
     let moved = c.in_ok-sort.ensures.permutation in
     record {
       rise = rw is (IsStrictlyIncreasing-dedup _ c.in_ok-sort.ensures.sorted);
       each = λ key h.
           let sorted = Contains-from_dedup _ _ key (rw is at h) in
-          subst (λ (keys : List ℕ). Contains keys key) c.in_ok-keys.ensures
+          subst (λ (keys : List ℕ). Contains keys key) c.in_ok-keys.ensures.keys
           (Contains-permutation _ _ key (IsPermutation-sym _ _ moved) sorted);
       all = λ key h.
-          let taken = subst (λ (keys : List ℕ). Contains keys key) (sym c.in_ok-keys.ensures) h in
+          let taken = subst (λ (keys : List ℕ). Contains keys key) (sym c.in_ok-keys.ensures.keys) h in
           rw is (Contains-dedup_nat _ key (Contains-permutation _ _ key moved taken));
     }

@@ -1,45 +1,8 @@
--- The rows of the distinct keys are the postings, where each list's count fits.
-use Rattle.std.proofs.Common.{◌∙◌, ℕ, List, None, map, sym, ap, subst, arith}
-use Rattle.volume_meaning.specs.Postings.{ArePostings}
-use Rattle.term_tags.specs.Keys.{AreInLists, AreKeys}
-use Rattle.term_tags.specs.Listing.{AllFit, AreCounts, IsFirstOver, listed, posting_rows}
-use Rattle.term_tags.specs.declared.rows.Posting.{Posting}
-use Rattle.term_tags.proofs.Bodies.{few_tags, in_lists, too_many}
-use Rattle.term_tags.proofs.RowLaws.{are_postings}
+-- The keys are of so many lists.
+use Rattle.std.proofs.Common.{ℕ, IfOk, subst}
+use Rattle.term_tags.specs.Listing.{GivesPostings}
 use Rattle.term_tags.proofs.rows.postings.Goals as goal
 
-pub count_each-requires-clause-below : goal.count_each-requires-clause-below
-count_each-requires-clause-below c =
-    subst (AreInLists c.args.lists) (sym c.deref-2.ensures.value)
-    (in_lists c.args.lists c.args.terms.now c.in_ok-keys.keys.items c.requires c.in_ok-keys.ensures)
-
-pub rows-requires-clause-below : goal.rows-requires-clause-below
-rows-requires-clause-below c =
-    subst (AreInLists c.args.lists) (sym c.deref-4.ensures.value)
-    (in_lists c.args.lists c.args.terms.now c.in_ok-keys.keys.items c.requires c.in_ok-keys.ensures)
-
-pub returns-in-Some-clause-err : goal.returns-in-Some-clause-err
-returns-in-Some-clause-err c = λ g body same words.
-    let terms = c.args.terms.now in
-    let keys = c.in_ok-keys.keys.items in
-    let counts = c.in_ok-counts.counts.items in
-    let keyed = subst (λ (n : ℕ). AreKeys n terms keys) (sym same) c.in_ok-keys.ensures in
-    let counted = subst (λ (n : ℕ). AreCounts n keys counts) (sym same)
-    (subst (λ (ks : List ℕ). AreCounts c.args.lists ks counts) c.deref-2.ensures.value c.in_ok-counts.ensures) in
-    let over = subst (λ (cs : List ℕ). IsFirstOver cs c.in-Some.list c.in-Some.count) c.deref-3.ensures.value c.in-Some.ensures.over in
-    too_many g body terms keys words keyed counts c.in-Some.list c.in-Some.count counted over
-
 pub returns-clause-ok : goal.returns-clause-ok
-returns-clause-ok c = λ g body same words n.
-    let terms = c.args.terms.now in
-    let keys = c.in_ok-keys.keys.items in
-    let counts = c.in_ok-counts.counts.items in
-    let keyed = subst (λ (n : ℕ). AreKeys n terms keys) (sym same) c.in_ok-keys.ensures in
-    let counted = subst (λ (n : ℕ). AreCounts n keys counts) (sym same)
-    (subst (λ (ks : List ℕ). AreCounts c.args.lists ks counts) c.deref-2.ensures.value c.in_ok-counts.ensures) in
-    let fit = subst (λ (n : ℕ). AllFit counts n) (sym same)
-    (subst (λ (cs : List ℕ). AllFit cs c.args.lists) c.deref-3.ensures.value c.in_default.ensures.fit) in
-    let is = c.in_ok-rows.ensures ∙ ap posting_rows c.deref-4.ensures.value in
-    subst (λ (rows : List Posting). ArePostings g None body n (map (listed n) rows)) (sym is)
-    (are_postings g body terms keys words keyed
-    (in_lists g.lists terms keys (omega (arith, same, c.requires)) keyed) (few_tags g.lists keys counts counted fit) n)
+returns-clause-ok c = subst (λ (lists : ℕ). IfOk c.postings_by.result (λ rows. GivesPostings lists c.args.terms.now rows.items))
+    c.in_ok-known.ensures c.postings_by.ensures.ok
