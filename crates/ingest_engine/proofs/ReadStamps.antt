@@ -1,9 +1,7 @@
 -- The stamps of the done slots, read one after another, and what that says of a device.
-use Rattle.std.proofs.Common.{◌≡◌, ◌<◌, ◌≤◌, ◌+◌, ◌*◌, ◌⊎◌, ⊎_elim, inl, inr, ℕ, Option, None, Some, Result, Ok, Err, refl, ap, sym, subst, arith, ◌∙◌}
-use Rattle.std.specs.Prelude.{◌-◌, IsTrue, List, drop, length, take}
+use Rattle.std.proofs.Common.{◌≡◌, ◌<◌, ◌≤◌, ◌+◌, ◌⊎◌, ⊎_elim, inl, inr, ℕ, Option, None, Some, Result, Ok, Err, refl, ap, sym, subst, arith, ◌∙◌}
+use Rattle.std.specs.Prelude.{IsTrue, List, length}
 use Rattle.std.proofs.lemmas.Bool.{cases_lt}
-use Rattle.std.proofs.lemmas.List.{get_or-drop, length-drop, take_all}
-use Rattle.std.proofs.lemmas.Option.{get_or_from_slice_get, slice_get-get_or}
 use Rattle.cell_types.specs.Image.{Image}
 use Rattle.cell_types.specs.Layout.{Layout, done_at}
 use Rattle.cell_types.specs.declared.refusal.Evidence.{Evidence}
@@ -14,7 +12,6 @@ use Rattle.cell_types.specs.declared.refusal.Refusal.TheVariants.{StampTooEarly}
 use Rattle.cell_types.specs.Refusals.{refusal_of_fault}
 use Rattle.volume_meaning.specs.Slots.{HasStamp, IsDoneSlot}
 use Rattle.volume_meaning.proofs.Extending.{done_slot_on, holds_on}
-use Rattle.worm_device.specs.ReadRows.{IsFoundBetween}
 use Rattle.worm_device.specs.State.{DeviceState}
 use Rattle.worm_device.specs.Views.{Viewed, ViewState, seen_directly}
 use Rattle.worm_device.proofs.Counting.{still_second}

@@ -1,5 +1,5 @@
 -- The slots of a row, from the last one on.
-use Rattle.std.proofs.Common.{◌+◌, ◌*◌, ◌-◌, ◌≡◌, ◌<◌, ◌≤◌, ℕ, List, arith, drop, length, length-drop, Ok, subst, sym, take}
+use Rattle.std.proofs.Common.{◌+◌, ◌*◌, ◌-◌, ◌≤◌, ℕ, List, arith, drop, length, length-drop, Ok, subst, sym, take}
 use Rattle.std.proofs.lemmas.List.{take_all}
 use Rattle.worm_device.specs.Views.{ViewState}
 use Rattle.cell_types.proofs.Passed.{handed}
