@@ -1,5 +1,5 @@
 -- Where kept hops lead: the way from a list's first block, and what is found at its end.
-use Rattle.std.proofs.Common.{◌≡◌, ◌<◌, ◌≤◌, ◌+◌, ◌^◌, ◌⊎◌, ⊎_elim, inl, inr, ℕ, zero, suc, List, [], ◌∷◌, Option, Some, None, Result, Ok, Err, refl, sym, subst, arith, ◌∙◌, min}
+use Rattle.std.proofs.Common.{◌≡◌, ◌<◌, ◌≤◌, ◌+◌, ◌^◌, ◌⊎◌, ⊎_elim, inl, inr, ℕ, zero, suc, List, [], ◌∷◌, Some, Ok, refl, sym, subst, arith, min}
 use Rattle.std.specs.Prelude.{IsTrue, slice_get}
 use Rattle.std.proofs.Math.ListN.{set}
 use Rattle.std.proofs.lemmas.Bool.{cases_lt}
@@ -13,10 +13,12 @@ use Rattle.volume_meaning.proofs.Spans.{span_above}
 use Rattle.worm_device.specs.Views.{ViewState, Viewed}
 use Rattle.jump_block.specs.Entries.{cell_of, posting_of}
 use Rattle.jump_block.specs.Fronts.{FirstEnds}
+use Rattle.jump_block.specs.Keeping.{AreFrontsKept}
 use Rattle.jump_block.specs.KeptRows.{IsRowKept}
 use Rattle.jump_block.specs.Pointing.{HasFull, HasKeyIn, HasPointer}
 use Rattle.jump_block.specs.Spans.{IsSpan}
 use Rattle.jump_block.specs.declared.held_entry.Entry.{Entry}
+use Rattle.jump_block.specs.declared.kept_fronts.KeptFronts.{KeptFronts}
 use Rattle.jump_block.specs.declared.kept_row.KeptRow.{KeptRow}
 use Rattle.jump_block.specs.declared.known_front.Front.TheVariants.{At}
 use Rattle.jump_block.specs.declared.spans.Span.{Span}
@@ -24,7 +26,7 @@ use Rattle.jump_block.proofs.Knowing.{key_on, kept_on}
 use Rattle.jump_block.proofs.OneBlock.{in_span, jump_target}
 use Rattle.jump_index.specs.Keeping.{AreHopsKept, GoesOn, IsHopKept, IsSearchKept, IsWay, Reaches}
 use Rattle.jump_index.specs.Looking.{SearchEnds}
-use Rattle.jump_index.specs.Searches.{FindEntryEnds, HasBoundedTrail, IsExact, IsFirstEntry}
+use Rattle.jump_index.specs.Searches.{FindEntryEnds, IsFirstEntry}
 use Rattle.jump_index.specs.declared.bounds.Bounds.{Bounds}
 use Rattle.jump_index.specs.declared.kept_hops.KeptHop.{KeptHop}
 use Rattle.jump_index.specs.declared.kept_hops.KeptHops.{KeptHops}
@@ -33,7 +35,6 @@ use Rattle.jump_index.specs.declared.kept_search.KeptSearch.{KeptSearch}
 use Rattle.jump_index.specs.declared.looked.Looked.TheVariants.{Found}
 use Rattle.jump_index.proofs.Descending.{full_in}
 use Rattle.jump_index.proofs.LookingHere.{found_here}
-use Rattle.jump_index.proofs.LookingLater.{trail_then}
 use Rattle.jump_index.proofs.Passing.{goes_through}
 
 -- what is kept stands over all that is written later
@@ -48,6 +49,17 @@ row_on e k = record { each = λ i value is. e.keeps _ _ (k.each i value is) }
 
 pub search_on : {old new : Image} {kept : KeptSearch} → Extends old new → IsSearchKept old kept → IsSearchKept new kept
 search_on e k = record { fronts = kept_on e k.fronts; row = row_on e k.row; hops = hops_on e k.hops }
+
+-- fronts that are known now take the place of those that were kept
+pub with_fronts : {old new : Image} {kept : KeptSearch} {fronts : KeptFronts} → Extends old new → IsSearchKept old kept
+    → AreFrontsKept new fronts
+    → IsSearchKept new (record { fronts = fronts; hops = kept.hops; row = kept.row })
+with_fronts e k known = record { fronts = known; row = row_on e k.row; hops = hops_on e k.hops }
+
+-- and hops those that were
+pub with_hops : {image : Image} {kept : KeptSearch} {hops : KeptHops} → IsSearchKept image kept → AreHopsKept image hops
+    → IsSearchKept image (record { fronts = kept.fronts; hops = hops; row = kept.row })
+with_hops k stand = record { fronts = k.fronts; row = k.row; hops = stand }
 
 -- what a place holds after one was set
 set_held : {X : Type 0} (xs : List X) (k : ℕ) (v : X) (i : ℕ) (y : X) → slice_get (set xs k v) i ≡ Some y

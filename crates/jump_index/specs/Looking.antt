@@ -1,9 +1,9 @@
 -- What the parts of a search do: a look into one block, a look behind its later pointers, and a search from a block.
-use Rattle.std.specs.Prelude.{◌≡◌, ◌<◌, ◌≤◌, ◌+◌, ◌*◌, ℕ, Option, Some, None, Result, Ok, Err, IsTrue, ⊤}
-use Rattle.cell_types.specs.Image.{Image}
+use Rattle.std.specs.Prelude.{◌≡◌, ◌<◌, ◌≤◌, ◌+◌, ◌*◌, ◌^◌, ℕ, Option, Some, None, Result, Ok, Err, IsTrue, ⊤}
 use Rattle.cell_types.specs.declared.refusal.Fault.{Fault}
 use Rattle.cell_types.specs.declared.refusal.Fault.TheVariants.{Tampered, Failed}
 use Rattle.tamper_rules.specs.declared.numbers.TheConstants.{BLOCK_OUT_OF_ORDER}
+use Rattle.volume_meaning.specs.declared.blocks.TheConstants.{BLOCK_CELLS}
 use Rattle.volume_meaning.specs.Blocks.{PostingFields, InFront, pointer_at}
 use Rattle.worm_device.specs.Counts.{Rose}
 use Rattle.worm_device.specs.Views.{ViewState, Viewed}
@@ -11,13 +11,54 @@ use Rattle.jump_block.specs.Entries.{IsNoPosting}
 use Rattle.jump_block.specs.declared.held_entry.Entry.{Entry}
 use Rattle.jump_block.specs.declared.spans.Span.{Span}
 use Rattle.jump_block.specs.Pointing.{HasKeyIn, HasFull, HasPointer}
+use Rattle.jump_block.specs.Spans.{IsSpan}
 use Rattle.jump_index.specs.Evidence.{FaultShows}
+use Rattle.jump_index.specs.Keeping.{IsHopKept}
 use Rattle.jump_index.specs.Searches.{HasBoundedTrail, IsListEntry, IsEntryBehind, IsExact, IsFirstEntry}
 use Rattle.jump_index.specs.declared.bounds.Bounds.{Bounds}
+use Rattle.jump_index.specs.declared.kept_hops.KeptHop.{KeptHop}
+use Rattle.jump_index.specs.declared.kept_hops.Reached.{Reached}
+use Rattle.jump_index.specs.declared.kept_hops.Tried.{Tried}
 use Rattle.jump_index.specs.declared.looked.Here.{Here}
 use Rattle.jump_index.specs.declared.looked.Here.TheVariants.{Ends, Beyond}
 use Rattle.jump_index.specs.declared.looked.Looked.{Looked}
 use Rattle.jump_index.specs.declared.looked.Looked.TheVariants.{Found, Nothing, NoKey}
+
+-- A search for the key x may go on from the block that was reached.
+pub record MaySearch (bounds : Bounds) (x : ℕ) (reached : Reached) (s : ViewState) : Type 0 where
+  -- the device has the block
+  pub inside : reached.block + BLOCK_CELLS ≤ s.cells
+  -- and those to which pointers may lead
+  pub edge : bounds.edge ≤ s.cells
+  -- the key is one for which the block was reached
+  pub from : reached.low ≤ x
+  pub below : x < reached.bound
+  -- these are no more than those of a pointer of the level
+  pub narrow : reached.bound ≤ reached.low + 16 ^ reached.level
+  pub level : reached.level ≤ 8
+
+-- The pointers of a block behind a span's may be tried.
+pub record MayTry (bounds : Bounds) (tried : Tried) (s : ViewState) : Type 0 where
+  -- the device has the block
+  pub inside : tried.block + BLOCK_CELLS ≤ s.cells
+  -- and those to which pointers may lead
+  pub edge : bounds.edge ≤ s.cells
+  -- the span is one of a block with this greatest key
+  pub span : IsSpan tried.greatest tried.span
+  -- and the block is full, and has it
+  pub full : IsTrue s.base.tells → HasFull s.image tried.block tried.greatest
+
+-- A hop may be taken.
+pub record MayFollow (bounds : Bounds) (hop : KeptHop) (s : ViewState) : Type 0 where
+  -- the device has the block in which the pointer stands
+  pub inside : hop.block + BLOCK_CELLS ≤ s.cells
+  -- and those to which pointers may lead
+  pub edge : bounds.edge ≤ s.cells
+  -- the span is one of a block with this greatest key, and has a key
+  pub span : IsSpan hop.greatest hop.span
+  pub below : hop.span.low < 2 ^ 32
+  -- the block is full, and its pointer leads to the target
+  pub stands : IsTrue s.base.tells → IsHopKept s.image hop
 
 -- no posting with a key from x up to the bound has a trail from the block
 abbrev pub PassesNone : Bounds → ℕ → ℕ → ℕ → ViewState → Type 0
@@ -45,6 +86,11 @@ pub record SearchesBlock (bounds : Bounds) (block x low bound level : ℕ) (old 
   pub viewed : Viewed old new
   pub reads : new.base.reads ≤ old.base.reads + 400 * (level + 1)
   pub ends : SearchEnds bounds block x low bound old new result
+
+-- the search of the block that was reached
+abbrev pub SearchesFrom : Bounds → ℕ → Reached → ViewState → ViewState → Result Looked Fault → Type 0
+SearchesFrom bounds x reached old new result =
+    SearchesBlock bounds reached.block x reached.low reached.bound reached.level old new result
 
 -- a look into one block, whatever the bounds
 abbrev pub BlockLookEnds : ℕ → ℕ → ℕ → ℕ → ViewState → ViewState → Result Here Fault → Type 0

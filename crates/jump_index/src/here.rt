@@ -4,36 +4,37 @@ ghost use Rattle.volume_meaning.specs.declared.blocks.TheConstants.{BLOCK_CELLS,
 ghost use Rattle.jump_block.specs.Keeping.{AreFrontsKept};
 ghost use Rattle.jump_index.specs.Looking.{EndsBefore, LooksBefore, LooksAtBlock};
 
+use crate::kept_hops::Reached;
 use crate::looked::{Here, Looked};
 use cell_types::Fault;
 use jump_block::{Front, KeptFronts, entry, first_from_kept};
 use worm_device::View;
 
-/// Looks for the first key of a block from x up to the bound. A pointer led here whose span is from low up to the
-/// bound.
+/// Looks for the first key from x on in the block that was reached, of the keys for which it was.
 pub(crate) fn look_here<V: View>(
     view: &mut V,
     fronts: &mut KeptFronts,
-    block: u32,
     x: u32,
-    low: u64,
-    bound: u64,
-    level: u8,
+    reached: Reached,
 ) -> Result<Here, Fault>
-    requires inside { block + BLOCK_CELLS ≤ (V.seen view.old).cells }
+    requires inside { reached.block + BLOCK_CELLS ≤ (V.seen view.old).cells }
     requires kept { IsTrue (V.seen view.old).base.tells → AreFrontsKept (V.seen view.old).image fronts.old }
-    requires from { low ≤ x }
-    requires below { x < bound }
-    requires level { level ≤ 8 }
+    requires from { reached.low ≤ x }
+    requires below { x < reached.bound }
+    requires level { reached.level ≤ 8 }
     ensures kept { IsTrue (V.seen view.old).base.tells → AreFrontsKept (V.seen view.new).image fronts.new }
-    ensures looks { LooksAtBlock block x low bound (V.seen view.old) (V.seen view.new) result }
+    ensures looks { LooksAtBlock reached.block x reached.low reached.bound (V.seen view.old) (V.seen view.new) result }
 {
-    let first = first_from_kept(view, fronts, usize::from(level), block, x)?;
+    let first = first_from_kept(view, fronts, usize::from(reached.level), reached.block, x)?;
     match first {
-        Front::At(next) if u64::from(next.key) < bound => Ok(Here::Ends(Looked::Found(next))),
-        Front::At(next) => look_before(view, block, next.place, low),
-        Front::Open(_, greatest) => Ok(end_before(greatest, low)),
-        Front::Full(greatest) if u64::from(greatest) < low => Ok(Here::Ends(Looked::NoKey)),
+        Front::At(next) if u64::from(next.key) < reached.bound => {
+            Ok(Here::Ends(Looked::Found(next)))
+        }
+        Front::At(next) => look_before(view, reached.block, next.place, reached.low),
+        Front::Open(_, greatest) => Ok(end_before(greatest, reached.low)),
+        Front::Full(greatest) if u64::from(greatest) < reached.low => {
+            Ok(Here::Ends(Looked::NoKey))
+        }
         Front::Full(greatest) => Ok(Here::Beyond(greatest)),
     }
 }

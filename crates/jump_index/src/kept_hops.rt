@@ -22,6 +22,17 @@ pub(crate) struct KeptHop {
     pub(crate) target: u32,
 }
 
+/// A span of a full block whose pointer a search asks for.
+#[derive(Clone, Copy)]
+pub(crate) struct Tried {
+    /// The number of the full block's first cell.
+    pub(crate) block: u32,
+    /// Its greatest key.
+    pub(crate) greatest: u32,
+    /// The keys that the pointer is for.
+    pub(crate) span: Span,
+}
+
 /// The block that hops lead to.
 #[derive(Clone, Copy)]
 pub(crate) struct Reached {

@@ -1,22 +1,19 @@
 //! The search of a list.
-ghost use Rattle.std.specs.Prelude.{◌<◌, ◌≤◌, ◌+◌, ◌^◌, IsTrue};
+ghost use Rattle.std.specs.Prelude.{◌<◌, ◌≤◌, ◌+◌, IsTrue};
 ghost use Rattle.volume_meaning.specs.declared.blocks.TheConstants.{BLOCK_CELLS};
-ghost use Rattle.jump_block.specs.Keeping.{AreFrontsKept};
-ghost use Rattle.jump_block.specs.Spans.{IsSpan};
-ghost use Rattle.jump_block.specs.Pointing.{HasFull};
-ghost use Rattle.jump_index.specs.Keeping.{AreHopsKept, IsSearchKept};
-ghost use Rattle.jump_index.specs.Looking.{FirstPointer, IsEntryWithin, LooksOn, SearchesBlock};
+ghost use Rattle.jump_index.specs.Keeping.{IsSearchKept};
+ghost use Rattle.jump_index.specs.Looking.{FirstPointer, IsEntryWithin, LooksOn, MaySearch, MayTry, SearchesFrom};
 ghost use Rattle.jump_index.specs.Searches.{FindsGeq};
 
 use crate::bounds::Bounds;
 use crate::here::look_here;
-use crate::kept_hops::{KeptHop, KeptHops};
+use crate::kept_hops::{KeptHop, Reached, Tried};
 use crate::kept_search::KeptSearch;
 use crate::later::look_later;
 use crate::looked::{Here, Looked};
 use crate::near::find_near;
 use cell_types::Fault;
-use jump_block::{Entry, KeptFronts, Span, leads_nowhere, pointer, span};
+use jump_block::{Entry, Span, leads_nowhere, pointer, span};
 use worm_device::View;
 
 /// The first entry of a list at or past x: no greater than any that has a trail from the list's first block, and the
@@ -53,17 +50,13 @@ pub fn find_geq_from_kept<V: View>(
     if let Some(near) = find_near(view, kept, head, x, bounds)? {
         return Ok(Some(near));
     }
-    match search(
-        view,
-        &mut kept.fronts,
-        &mut kept.hops,
-        bounds,
-        head,
-        x,
-        0,
-        1 << 32,
-        8,
-    ) {
+    let first = Reached {
+        block: head,
+        low: 0,
+        bound: 1 << 32,
+        level: 8,
+    };
+    match search(view, kept, bounds, x, first) {
         Ok(Looked::Found(entry)) => Ok(Some(entry)),
         Ok(Looked::Nothing) => Ok(None),
         // No pointer leads to the first block, which may be empty.
@@ -72,61 +65,50 @@ pub fn find_geq_from_kept<V: View>(
     }
 }
 
-/// The first entry in or behind a block with a key from x up to the bound. A pointer led here whose span is from
-/// low up to the bound, 16 to the power of level keys.
+/// The first entry with a key from x on in or behind the block that was reached, of the keys for which it was.
 fn search<V: View>(
     view: &mut V,
-    fronts: &mut KeptFronts,
-    hops: &mut KeptHops,
+    kept: &mut KeptSearch,
     bounds: Bounds,
-    block: u32,
     x: u32,
-    low: u64,
-    bound: u64,
-    level: u8,
+    reached: Reached,
 ) -> Result<Looked, Fault>
-    requires inside { block + BLOCK_CELLS ≤ (V.seen view.old).cells }
-    requires edge { bounds.edge ≤ (V.seen view.old).cells }
-    requires kept { IsTrue (V.seen view.old).base.tells → AreFrontsKept (V.seen view.old).image fronts.old }
-    requires hops { IsTrue (V.seen view.old).base.tells → AreHopsKept (V.seen view.old).image hops.old }
-    requires narrow { bound ≤ low + 16 ^ level }
-    requires from { low ≤ x }
-    requires below { x < bound }
-    requires level { level ≤ 8 }
-    ensures kept { IsTrue (V.seen view.old).base.tells → AreFrontsKept (V.seen view.new).image fronts.new }
-    ensures hops { IsTrue (V.seen view.old).base.tells → AreHopsKept (V.seen view.new).image hops.new }
-    ensures looks { SearchesBlock bounds block x low bound level (V.seen view.old) (V.seen view.new) result }
+    requires ready { MaySearch bounds x reached (V.seen view.old) }
+    requires kept { IsTrue (V.seen view.old).base.tells → IsSearchKept (V.seen view.old).image kept.old }
+    ensures kept { IsTrue (V.seen view.old).base.tells → IsSearchKept (V.seen view.new).image kept.new }
+    ensures looks { SearchesFrom bounds x reached (V.seen view.old) (V.seen view.new) result }
 {
-    let here = look_here(view, fronts, block, x, low, bound, level)?;
-    let l = match here {
+    let here = look_here(view, &mut kept.fronts, x, reached)?;
+    let greatest = match here {
         Here::Ends(looked) => return Ok(looked),
-        Here::Beyond(l) => l,
+        Here::Beyond(greatest) => greatest,
     };
-    let first = span(l, x);
-    let to = first_pointer(view, bounds, block, first)?;
+    let first = span(greatest, x);
+    let tried = Tried {
+        block: reached.block,
+        greatest,
+        span: first,
+    };
+    let to = first_pointer(view, bounds, tried.block, first)?;
     let Some(target) = to else {
-        return look_on(view, fronts, hops, bounds, block, l, first, bound);
+        return look_on(view, kept, bounds, tried, reached.bound);
     };
-    hops.keep(KeptHop {
-        block,
-        greatest: l,
+    kept.hops.keep(KeptHop {
+        block: tried.block,
+        greatest,
         span: first,
         target,
     });
-    match search(
-        view,
-        fronts,
-        hops,
-        bounds,
-        target,
-        x,
-        first.low,
-        first.high,
-        first.level,
-    ) {
-        Ok(Looked::Found(entry)) => Ok(within(entry, bound)),
-        Ok(Looked::Nothing) => look_on(view, fronts, hops, bounds, block, l, first, bound),
-        Ok(Looked::NoKey) => Err(leads_nowhere(block, &first, target)),
+    let behind = Reached {
+        block: target,
+        low: first.low,
+        bound: first.high,
+        level: first.level,
+    };
+    match search(view, kept, bounds, x, behind) {
+        Ok(Looked::Found(entry)) => Ok(within(entry, reached.bound)),
+        Ok(Looked::Nothing) => look_on(view, kept, bounds, tried, reached.bound),
+        Ok(Looked::NoKey) => Err(leads_nowhere(tried.block, &first, target)),
         Err(fault) => Err(fault),
     }
 }
@@ -134,34 +116,17 @@ fn search<V: View>(
 /// The first entry behind the later pointers of a full block, with a key below the bound.
 fn look_on<V: View>(
     view: &mut V,
-    fronts: &mut KeptFronts,
-    hops: &mut KeptHops,
+    kept: &mut KeptSearch,
     bounds: Bounds,
-    block: u32,
-    l: u32,
-    first: Span,
+    tried: Tried,
     bound: u64,
 ) -> Result<Looked, Fault>
-    requires inside { block + BLOCK_CELLS ≤ (V.seen view.old).cells }
-    requires edge { bounds.edge ≤ (V.seen view.old).cells }
-    requires kept { IsTrue (V.seen view.old).base.tells → AreFrontsKept (V.seen view.old).image fronts.old }
-    requires hops { IsTrue (V.seen view.old).base.tells → AreHopsKept (V.seen view.old).image hops.old }
-    requires span { IsSpan l first }
-    requires full { IsTrue (V.seen view.old).base.tells → HasFull (V.seen view.old).image block l }
-    ensures kept { IsTrue (V.seen view.old).base.tells → AreFrontsKept (V.seen view.new).image fronts.new }
-    ensures hops { IsTrue (V.seen view.old).base.tells → AreHopsKept (V.seen view.new).image hops.new }
-    ensures looks { LooksOn bounds block first.high bound (V.seen view.old) (V.seen view.new) result }
+    requires ready { MayTry bounds tried (V.seen view.old) }
+    requires kept { IsTrue (V.seen view.old).base.tells → IsSearchKept (V.seen view.old).image kept.old }
+    ensures kept { IsTrue (V.seen view.old).base.tells → IsSearchKept (V.seen view.new).image kept.new }
+    ensures looks { LooksOn bounds tried.block tried.span.high bound (V.seen view.old) (V.seen view.new) result }
 {
-    match look_later(
-        view,
-        fronts,
-        hops,
-        bounds,
-        block,
-        l,
-        first,
-        bound.min(1 << 32),
-    ) {
+    match look_later(view, kept, bounds, tried, bound.min(1 << 32)) {
         Ok(Some(entry)) => Ok(within(entry, bound)),
         Ok(None) => Ok(Looked::Nothing),
         Err(fault) => Err(fault),

@@ -13,7 +13,7 @@ returns-in_err-first-clause-looks g c =
     record {
       viewed = f.viewed;
       reads = omega (arith, f.reads);
-      ends = fault_here c.args.block c.args.x c.args.low c.args.bound _ _ c.requires.from c.requires.inside
+      ends = fault_here c.args.reached.block c.args.x c.args.reached.low c.args.reached.bound _ _ c.requires.from c.requires.inside
           f.viewed c.in_err-first.field-0.0 f.ends;
     })
 
@@ -23,7 +23,7 @@ returns-in-At-clause-looks g c =
     record {
       viewed = f.viewed;
       reads = omega (arith, f.reads);
-      ends = found_here c.args.block c.args.x c.args.low c.args.bound _ _ c.requires.from c.requires.inside
+      ends = found_here c.args.reached.block c.args.x c.args.reached.low c.args.reached.bound _ _ c.requires.from c.requires.inside
           f.viewed c.in-At.next f.ends (omega arith);
     }
 
@@ -33,7 +33,7 @@ returns-in-At-2-clause-kept g c = λ tells. kept_on c.look_before.ensures.viewed
 pub returns-in-At-2-clause-looks : goal.returns-in-At-2-clause-looks
 returns-in-At-2-clause-looks g c =
     let f = rw c.in-At-2.is at c.in_ok-first.ensures.finds in
-    past_here c.args.block c.args.x c.args.low c.args.bound _ _ c.requires.from c.requires.inside f.viewed
+    past_here c.args.reached.block c.args.x c.args.reached.low c.args.reached.bound _ _ c.requires.from c.requires.inside f.viewed
     c.in-At-2.next _ f.ends (omega (
       arith,
       at_key c.in-At-2.next c.in-At.next
@@ -47,7 +47,7 @@ returns-in-Open-clause-looks g c =
     record {
       viewed = f.viewed;
       reads = omega (arith, f.reads);
-      ends = open_here c.args.block c.args.x c.args.low c.args.bound _ _ c.requires.from c.requires.inside
+      ends = open_here c.args.reached.block c.args.x c.args.reached.low c.args.reached.bound _ _ c.requires.from c.requires.inside
           f.viewed c.in-Open.field-0 c.in-Open.greatest
           c.end_before.result f.ends c.end_before.ensures;
     }
@@ -58,6 +58,6 @@ returns-in-Full-clause-looks g c =
     record {
       viewed = f.viewed;
       reads = omega (arith, f.reads);
-      ends = low_here c.args.block c.args.x c.args.low c.args.bound _ _ c.requires.from c.requires.inside f.viewed
+      ends = low_here c.args.reached.block c.args.x c.args.reached.low c.args.reached.bound _ _ c.requires.from c.requires.inside f.viewed
           c.in-Full.greatest f.ends (omega arith);
     }
