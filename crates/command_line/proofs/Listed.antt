@@ -52,9 +52,16 @@ third_of_four a b c d x y z w e = cc
 pub fourth_of_four : {A : Type 0} (a b c d x y z w : A) → a ∷ b ∷ c ∷ d ∷ [] ≡ x ∷ y ∷ z ∷ w ∷ [] → d ≡ w
 fourth_of_four a b c d x y z w e = cc
 
--- lists of two that are the same have the same second
+-- lists of two that are the same have the same first and second
+pub front_is : {A : Type 0} (a b x y : A) → a ∷ b ∷ [] ≡ x ∷ y ∷ [] → a ≡ x
+front_is a b x y e = cc
+
 pub last_is : {A : Type 0} (a b x y : A) → a ∷ b ∷ [] ≡ x ∷ y ∷ [] → b ≡ y
 last_is a b x y e = cc
+
+-- and of one the same
+pub first_is : {A : Type 0} (a x : A) → a ∷ [] ≡ x ∷ [] → a ≡ x
+first_is a x e = cc
 
 -- what holds anyway holds where there is none
 pub if_none : {A : Type 0} (o : Option A) {P : Type 0} → P → IfNone o P

@@ -1,7 +1,8 @@
 //! The words of a command, read in place.
-ghost use Rattle.std.specs.Prelude.{ℕ, List, Option, map, IfSome, IfNone};
+ghost use Rattle.std.specs.Prelude.{◌≡◌, ◌↔◌, ℕ, List, [], ◌∷◌, Option, map, IfSome, IfNone, IsTrue};
 ghost use Rattle.std.specs.String.{string_bytes};
-ghost use Rattle.command_line.specs.Asking.{AsksBetween, AsksByVersion, AsksForReceipt, AsksPlainly, AsksToAudit, AsksToCheck, AsksToExercise, AsksToFind, AsksToFormat, AsksToIngest, AsksToLookUp, AsksToRecover, AsksToReplay, AsksWithStamp, AsksWithoutStamp};
+ghost use Rattle.command_line.specs.Asking.{AsksBetween, AsksByVersion, AsksForReceipt, AsksPlainly, AsksToExercise, AsksToFind, AsksToFormat, AsksToIngest, AsksToLookUp, AsksWithStamp, AsksWithoutStamp};
+ghost use Rattle.command_line.specs.Words.{IsNoOption};
 ghost use Rattle.command_line.specs.Requests.{Asks, AsksNothing, request_of};
 
 use crate::numbers::{is_option, number_up_to, seconds_of};
@@ -59,25 +60,52 @@ pub fn command_of(words: &[String]) -> Option<Command<'_>>
     if let Some(command) = lookup_of(words) {
         return Some(command);
     }
-    if let Some(command) = recover_of(words) {
-        return Some(command);
+    if is_alone(words, "recover") {
+        return Some(Command::Recover);
     }
-    if let Some(command) = audit_of(words) {
-        return Some(command);
+    if is_alone(words, "audit") {
+        return Some(Command::Audit);
     }
-    if let Some(command) = replay_of(words) {
-        return Some(command);
+    if is_alone(words, "replay") {
+        return Some(Command::Replay);
     }
     if let Some(command) = exercise_of(words) {
         return Some(command);
     }
-    if let Some(command) = check_of(words) {
-        return Some(command);
+    if is_alone(words, "check") {
+        return Some(Command::Check);
     }
     if let Some(command) = receipt_of(words) {
         return Some(command);
     }
     between_of(words)
+}
+
+/// Whether the words are this one alone.
+fn is_alone(words: &[String], command: &str) -> bool
+    ensures { IsTrue result ↔ (map string_bytes words.now ≡ command.now ∷ []) }
+{
+    let [word] = words else {
+        return false;
+    };
+    word.as_str() == command
+}
+
+/// The word behind this one, where there are these two alone and it is not empty and begins with no hyphen.
+fn word_behind<'a>(words: &'a [String], command: &str) -> Option<&'a [u8]>
+    ensures some { IfSome result (λ word. (map string_bytes words.now ≡ command.now ∷ word.now ∷ [])
+        × IsNoOption word.now) }
+    ensures none { IfNone result ((word : List ℕ) → map string_bytes words.now ≡ command.now ∷ word ∷ []
+        → IsNoOption word → ⊥) }
+{
+    let [first, word] = words else {
+        return None;
+    };
+    let word = word.as_bytes();
+    if first.as_str() != command || is_option(word) {
+        return None;
+    }
+    Some(word)
 }
 
 /// The command `format`, where the words are this and two or three numbers in range.
@@ -152,13 +180,7 @@ fn unstamped_ingest_of(words: &[String]) -> Option<Command<'_>>
     ensures some { IfSome result (λ command. Asks (map string_bytes words.now) (request_of command)) }
     ensures none { IfNone result ((id : List ℕ) → AsksWithoutStamp (map string_bytes words.now) id → ⊥) }
 {
-    let [command, id] = words else {
-        return None;
-    };
-    let id = id.as_bytes();
-    if command.as_str() != "ingest" || is_option(id) {
-        return None;
-    }
+    let id = word_behind(words, "ingest")?;
     Some(Command::Ingest { id, stamp: None })
 }
 
@@ -202,56 +224,8 @@ fn lookup_of(words: &[String]) -> Option<Command<'_>>
     ensures some { IfSome result (λ command. Asks (map string_bytes words.now) (request_of command)) }
     ensures none { IfNone result ((id : List ℕ) → AsksToLookUp (map string_bytes words.now) id → ⊥) }
 {
-    let [command, id] = words else {
-        return None;
-    };
-    let id = id.as_bytes();
-    if command.as_str() != "lookup" || is_option(id) {
-        return None;
-    }
+    let id = word_behind(words, "lookup")?;
     Some(Command::LookUp { id })
-}
-
-/// The command `recover`, where the words are this alone.
-fn recover_of(words: &[String]) -> Option<Command<'_>>
-    ensures some { IfSome result (λ command. Asks (map string_bytes words.now) (request_of command)) }
-    ensures none { IfNone result (AsksToRecover (map string_bytes words.now) → ⊥) }
-{
-    let [command] = words else {
-        return None;
-    };
-    if command.as_str() != "recover" {
-        return None;
-    }
-    Some(Command::Recover)
-}
-
-/// The command `audit`, where the words are this alone.
-fn audit_of(words: &[String]) -> Option<Command<'_>>
-    ensures some { IfSome result (λ command. Asks (map string_bytes words.now) (request_of command)) }
-    ensures none { IfNone result (AsksToAudit (map string_bytes words.now) → ⊥) }
-{
-    let [command] = words else {
-        return None;
-    };
-    if command.as_str() != "audit" {
-        return None;
-    }
-    Some(Command::Audit)
-}
-
-/// The command `replay`, where the words are this alone.
-fn replay_of(words: &[String]) -> Option<Command<'_>>
-    ensures some { IfSome result (λ command. Asks (map string_bytes words.now) (request_of command)) }
-    ensures none { IfNone result (AsksToReplay (map string_bytes words.now) → ⊥) }
-{
-    let [command] = words else {
-        return None;
-    };
-    if command.as_str() != "replay" {
-        return None;
-    }
-    Some(Command::Replay)
 }
 
 /// The command `exercise`, where the words are this and a number in range.
@@ -269,32 +243,12 @@ fn exercise_of(words: &[String]) -> Option<Command<'_>>
     Some(Command::Exercise { documents })
 }
 
-/// The command `check`, where the words are this alone.
-fn check_of(words: &[String]) -> Option<Command<'_>>
-    ensures some { IfSome result (λ command. Asks (map string_bytes words.now) (request_of command)) }
-    ensures none { IfNone result (AsksToCheck (map string_bytes words.now) → ⊥) }
-{
-    let [command] = words else {
-        return None;
-    };
-    if command.as_str() != "check" {
-        return None;
-    }
-    Some(Command::Check)
-}
-
 /// The command `receipt`, where the words are this and one that is not empty and begins with no hyphen.
 fn receipt_of(words: &[String]) -> Option<Command<'_>>
     ensures some { IfSome result (λ command. Asks (map string_bytes words.now) (request_of command)) }
     ensures none { IfNone result ((id : List ℕ) → AsksForReceipt (map string_bytes words.now) id → ⊥) }
 {
-    let [command, id] = words else {
-        return None;
-    };
-    let id = id.as_bytes();
-    if command.as_str() != "receipt" || is_option(id) {
-        return None;
-    }
+    let id = word_behind(words, "receipt")?;
     Some(Command::MakeReceipt { id })
 }
 
