@@ -24,9 +24,9 @@
 //! node is found by bisection, among the rising numbers of where nodes and blocks begin.
 //!
 //! A document stands on the volume that cell 0 states. So who asks about documents shows first that cell 0 states this
-//! volume, as by `states_volume`. Rules 11 and 14 need that rule 4 is kept: then an identifier is known by the first cells
-//! of its document, and a bucket costs no reading of a body. Rule 12 needs rules 1 and 5: the targets of a journal rise,
-//! so that the copy of a child cell is found by bisection.
+//! volume. Rules 11 and 14 need that rule 4 is kept: then an identifier is known by the first cells of its document, and a
+//! bucket costs no reading of a body. Rule 12 needs rules 1 and 5: the targets of a journal rise, so that the copy of a
+//! child cell is found by bisection.
 //!
 //! Stands on `log_audit`, `slot_audit` and `list_audit`, on `document_store` for identifiers, on `hash_tree` for half
 //! bytes, and on `sha2`. Begin with `nodes.rt`, then `buckets.rt`. Rule 10, of pointers, is in `pointers.rt`: which blocks a
@@ -45,7 +45,6 @@ mod paths;
 mod pointers;
 mod spans;
 mod trails;
-mod volume;
 
 pub use buckets::first_broken_bucket;
 pub use children::first_broken_child;
@@ -53,4 +52,3 @@ pub use nodes::{LevelNode, nodes_of};
 pub use occupied::OccupiedCells;
 pub use pointers::first_broken_pointer;
 pub use trails::first_broken_path;
-pub use volume::states_volume;
