@@ -3,7 +3,7 @@ use crate::cells::{Written, device_with};
 use cell_types::{Cell, Geometry};
 use list_audit::{ListBlock, blocks_of};
 use log_audit::{KeptVolume, Shown, check_log, keep_cells};
-use slot_audit::{first_broken, first_broken_tiling};
+use slot_audit::{first_broken_document, first_broken_journal, first_broken_tiling};
 use std::alloc::Global;
 use std::test::Fail;
 use tree_audit::{LevelNode, nodes_of};
@@ -80,8 +80,11 @@ fn tiled_with(alloc: Global, jump: u32, child: u32) -> Result<Option<u32>, Fail>
         geometry,
         log,
     };
-    if let Some(_evidence) = first_broken(&volume) {
-        return Err("a lower rule is broken".into());
+    if let Some(_evidence) = first_broken_document(&volume) {
+        return Err("rule 4 is broken".into());
+    }
+    if let Some(_evidence) = first_broken_journal(&volume) {
+        return Err("rule 5 is broken".into());
     }
     let found = first_broken_tiling(alloc, &volume)?;
     Ok(found.map(|evidence| evidence.cell))

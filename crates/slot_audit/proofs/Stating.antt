@@ -1,5 +1,5 @@
 -- Rules 4 to 6 at slots that are stored.
-use Rattle.std.proofs.Common.{◌≡◌, ◌<◌, inl, inr, ℕ, Some, sym, ◌∙◌, subst, ap, arith, Option, None, ◌+◌}
+use Rattle.std.proofs.Common.{◌≡◌, ◌<◌, inl, inr, ℕ, Some, sym, ◌∙◌, subst, ap, arith}
 use Rattle.std.proofs.lemmas.Option.{none-some}
 use Rattle.cell_types.specs.Image.{Image}
 use Rattle.cell_types.specs.Layout.{Layout, outcome_at}
@@ -7,10 +7,8 @@ use Rattle.cell_types.specs.declared.refusal.Evidence.{Evidence}
 use Rattle.volume_meaning.specs.Documents.{document_at}
 use Rattle.volume_meaning.specs.Slots.{Stores}
 use Rattle.volume_meaning.specs.Volumes.{IsWritten}
-use Rattle.tamper_rules.specs.Rules.{HasDocument, DocumentRule, JournalRule, Journals, RedoneRule, number_of, Rule}
-use Rattle.log_audit.specs.Findings.{AreMetBelow, FindsBroken, IsLeastBroken}
-use Rattle.log_audit.proofs.Numbers.{below_next}
-use Rattle.slot_audit.specs.Checking.{FindsFirstBroken}
+use Rattle.tamper_rules.specs.Rules.{HasDocument, DocumentRule, JournalRule, Journals, RedoneRule, number_of}
+use Rattle.log_audit.specs.Findings.{IsLeastBroken}
 use Rattle.log_audit.specs.Logs.{IsLog}
 use Rattle.log_audit.specs.Stored.{IsStored}
 use Rattle.log_audit.specs.declared.log.Log.{Log}
@@ -93,9 +91,3 @@ pub redone_so : {g : Layout} {image : Image} {s : StoredSlot} {place cell : ℕ}
 redone_so {g} {image} {s} {place} {cell} stored less at o rule target h =
     ap image (sym (one_target (has_target o.copies) h))
     ∙ rule.done s.slot s.start s.length s.bytes s.journal place o.target o.copied stored.done o.copies at ∙ ap image at
-
--- the last of several rules, where those below it are kept
-pub found_last : (g : Layout) (image : Image) (rule : Rule) (found : Option Evidence) → AreMetBelow g image (number_of rule)
-    → FindsBroken g image rule found → FindsFirstBroken g image (number_of rule + 1) found
-found_last g image rule None lower finds = below_next rule lower finds
-found_last g image rule (Some e) lower finds = record { rule = rule; least = finds; lower = lower }

@@ -1,4 +1,3 @@
-pub mod Checking
 pub mod Copied
 pub mod Copying
 pub mod Journals

@@ -24,11 +24,10 @@
 //! slots; and reservations rise with the slots too, so a walk by slot and place meets journal cells in rising order.
 //!
 //! Stands on `log_audit` (what a check finds, the log, the slots that hold documents) and `document_store` (reading
-//! one). Begin with `checking.rt`; `specs/Journals.antt` says what is asked of each place of a journal.
+//! one). Begin with `documents.rt`; `specs/Journals.antt` says what is asked of each place of a journal.
 #![tactic(auto)]
 
 mod back;
-mod checking;
 mod copies;
 mod documents;
 mod entries;
@@ -44,7 +43,6 @@ mod targets;
 mod tile;
 mod tilings;
 
-pub use checking::first_broken;
 pub use copies::target_at;
 pub use documents::first_broken_document;
 pub use entries::is_in_order;
