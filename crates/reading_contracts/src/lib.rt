@@ -22,6 +22,9 @@ pub use joins::{is_live_again, next_common_again, next_of_terms_again};
 pub use keeping::{has_trail_again, is_kept_again};
 pub use log::{end_of_log_again, open_again, slot_of_row_again, slot_state_again};
 pub use receipts::read_receipt_again;
-pub use tags::{document_postings_again, postings_again};
+pub use tags::{
+    document_postings_again, document_postings_by_again, keys_of_many_again, keys_of_one_again,
+    postings_again,
+};
 pub use tree::{lookup_again, next_candidate_again, walk_again};
 pub use words::{finish_again, single_term_again, words_again};
