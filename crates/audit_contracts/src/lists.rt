@@ -12,11 +12,12 @@ ghost use Rattle.volume_meaning.specs.Volumes.{Holds};
 use cell_types::{Evidence, Geometry, NoMemory};
 use host_ports::Meter;
 use list_audit::{
-    HeldPosting, ListBlock, OwedPostings, blocks_of, first_broken_entry, first_broken_posting,
+    ListBlock, OwedPostings, blocks_of, first_broken_entry, first_broken_posting,
     first_broken_trail, posting_at,
 };
 use log_audit::{KeptCells, KeptVolume};
 use std::alloc::Global;
+use volume_meaning::PostingFields;
 
 /// `blocks_of`.
 pub fn blocks_of_again(
@@ -42,7 +43,7 @@ pub fn broken_entry_again(
 }
 
 /// `posting_at`.
-pub fn posting_at_again(kept: &KeptCells, at: u32) -> Option<HeldPosting>
+pub fn posting_at_again(kept: &KeptCells, at: u32) -> Option<PostingFields>
     ensures some { IfSome result (λ p. Holds (image_of_kept kept.now) at (posting_record p)) }
     ensures none { IfNone result ((p : PostingFields) → Holds (image_of_kept kept.now) at (posting_record p) → ⊥) }
     ensures one { (p : PostingFields) → Holds (image_of_kept kept.now) at (posting_record p) → result ≡ Some p }

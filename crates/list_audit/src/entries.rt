@@ -86,5 +86,5 @@ fn is_in_order(kept: &KeptCells, block: u32, place: u32) -> bool
     let Some(before) = posting_at(kept, block + (place - 1)) else {
         return false;
     };
-    before.key() < posting.key()
+    before.key < posting.key
 }

@@ -46,7 +46,7 @@ mod trails;
 
 pub use blocks::blocks_of;
 pub use entries::first_broken_entry;
-pub use held_posting::{HeldPosting, posting_at};
+pub use held_posting::posting_at;
 pub use listed::ListBlock;
 pub use postings::first_broken_posting;
 pub use rules::first_broken_trail;

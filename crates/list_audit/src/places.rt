@@ -28,10 +28,10 @@ pub(crate) fn place_of(kept: &KeptCells, block: u32, key: u32, guess: u32) -> u3
             high = middle;
             continue;
         };
-        if posting.key() == key {
+        if posting.key == key {
             return middle;
         }
-        if posting.key() < key {
+        if posting.key < key {
             low = middle + 1;
         } else {
             high = middle;

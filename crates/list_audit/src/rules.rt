@@ -41,7 +41,6 @@ ghost use Rattle.list_audit.specs.Keeping.{AreLedTo, HaveTrails, KeepsTrailRule}
 ghost use Rattle.list_audit.specs.Owed.{IsAllOwed};
 
 use crate::blocks::list_count;
-use crate::held_posting::HeldPosting;
 use crate::listing::postings_of;
 use crate::table::{OwedPostings, PostingTable, listed_in};
 use crate::trails::{TrailEnd, end_of_trail, has_trail};
@@ -164,16 +163,9 @@ fn have_trails(kept: &KeptCells, geometry: &Geometry, rows: &[ListedPosting]) ->
     ensures { IsTrue result ↔ HaveTrails geometry.now (image_of_kept kept.now) rows.now }
 {
     for row in rows {
-        if !has_trail(kept, geometry, row.list(), &posting_in(row)) {
+        if !has_trail(kept, geometry, row.list(), &row.posting()) {
             return false;
         }
     }
     true
-}
-
-/// What a posting says, without its list.
-fn posting_in(row: &ListedPosting) -> HeldPosting
-    ensures { result ≡ row.now.posting }
-{
-    HeldPosting::new(row.key(), row.last(), row.tag())
 }

@@ -7,13 +7,13 @@ ghost use Rattle.volume_meaning.specs.Blocks.{PostingFields};
 ghost use Rattle.list_audit.specs.Owed.{IsAllOwed};
 ghost use Rattle.list_audit.specs.Tables.{AddsRow, AddsRows, AreOrderedRows, AreSameRows, FitsRow, HasRow, number_of};
 
-use crate::held_posting::HeldPosting;
 use crate::listing::postings_of;
 use cell_types::{NoMemory, RecordCell, address_of, decode, memory};
 use host_ports::{Meter, Work};
 use log_audit::{KeptCells, KeptVolume, StoredSlot};
 use std::alloc::Global;
 use term_tags::{KnownKeys, ListedPosting};
+use volume_meaning::PostingFields;
 
 /// How far the numbers of the postings of a list lie from those of the next.
 pub(crate) const LIST_STEP: u64 = 1_099_511_627_776;
@@ -79,15 +79,12 @@ impl PostingTable {
     }
 
     /// The place of a posting of a list, if it is there: the guess, or found by bisection.
-    pub(crate) fn place_of(&self, list: u16, posting: &HeldPosting, guess: usize) -> Option<usize>
+    pub(crate) fn place_of(&self, list: u16, posting: &PostingFields, guess: usize) -> Option<usize>
         requires { AreOrderedRows self.now.rows.items }
         ensures some { IfSome result (λ place. HasRow self.now.rows.items list posting.now) }
         ensures none { IfNone result (HasRow self.now.rows.items list posting.now → ⊥) }
     {
-        let sought = (
-            number_of(list, posting.key(), posting.last()),
-            posting.tag(),
-        );
+        let sought = (number_of(list, posting.key, posting.last), posting.tag);
         if is_row_at(&self.rows, guess, &sought) {
             return Some(guess);
         }
@@ -190,14 +187,21 @@ fn postings_journaled_by(kept: &KeptCells, stored: &StoredSlot) -> usize
 }
 
 /// The list of such a number, and the posting that it and a tag make.
-pub(crate) fn listed_in(row: &(u64, [u8; 6])) -> (u16, HeldPosting)
+pub(crate) fn listed_in(row: &(u64, [u8; 6])) -> (u16, PostingFields)
     ensures { (l : ℕ) (p : PostingFields) → FitsRow l p → row.now ≡ (number_of l p.key p.last, p.tag)
         → (result.0 ≡ l) × (result.1 ≡ p) }
 {
     let list = (row.0 / LIST_STEP % LISTS) as u16;
     let key = (row.0 / KEY_STEP % KEYS) as u32;
     let last = (row.0 % KEY_STEP) as u8;
-    (list, HeldPosting::new(key, last, row.1))
+    (
+        list,
+        PostingFields {
+            key,
+            last,
+            tag: row.1,
+        },
+    )
 }
 
 /// A list, a key and a greatest ordinal as one number.

@@ -6,12 +6,12 @@ ghost use Rattle.log_audit.specs.Kept.{image_of_kept};
 ghost use Rattle.log_audit.specs.Findings.{IsMetAll};
 ghost use Rattle.list_audit.specs.Trails.{HasTrail};
 
-use crate::held_posting::HeldPosting;
 use crate::listed::ListBlock;
 use crate::places::LAST_ENTRY;
 use crate::steps::{Step, step_from};
 use cell_types::Geometry;
 use log_audit::KeptCells;
+use volume_meaning::PostingFields;
 
 /// How many blocks a trail has at most: a span has 16 to the power of its level keys, levels are 0 to 7, and they fall
 /// from one block to the next.
@@ -53,7 +53,7 @@ impl TrailEnd {
 }
 
 /// Whether a posting has a trail from the first block of a list, where rules 8 and 10 are kept.
-pub fn has_trail(kept: &KeptCells, geometry: &Geometry, list: u16, posting: &HeldPosting) -> bool
+pub fn has_trail(kept: &KeptCells, geometry: &Geometry, list: u16, posting: &PostingFields) -> bool
     requires list { list < all_lists geometry.now }
     requires entries { IsMetAll geometry.now (image_of_kept kept.now) Entries }
     requires pointers { IsMetAll geometry.now (image_of_kept kept.now) Pointers }
@@ -70,7 +70,7 @@ pub(crate) fn end_of_trail(
     kept: &KeptCells,
     geometry: &Geometry,
     list: u16,
-    posting: &HeldPosting,
+    posting: &PostingFields,
     last: TrailEnd,
 ) -> Option<TrailEnd>
     requires list { list < all_lists geometry.now }
@@ -81,8 +81,8 @@ pub(crate) fn end_of_trail(
     ensures none { IfNone result
         (HasTrail geometry.now (image_of_kept kept.now) posting.now (list_at geometry.now list) → ⊥) }
 {
-    // Known of a key once it is asked for: it is below 16^8.
-    let _key = posting.key();
+    // Known of a key once it is read: it is below 16^8.
+    let _key = posting.key;
     let mut block = geometry.list_at(list);
     for _turn in 0..MOST_BLOCKS {
         let guess = last.guess_in(block);

@@ -27,6 +27,9 @@ pub use log::{
     slot_state_again,
 };
 pub use receipts::read_receipt_again;
-pub use tags::{document_postings_again, postings_again};
+pub use tags::{
+    document_postings_again, document_postings_by_again, keys_of_many_again, keys_of_one_again,
+    postings_again,
+};
 pub use tree::{lookup_again, next_candidate_again, walk_again};
 pub use words::{finish_again, single_term_again, words_again};

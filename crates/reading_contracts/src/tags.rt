@@ -3,7 +3,7 @@ ghost use Rattle.std.specs.Prelude.{◌≡◌, ◌<◌, ◌≤◌, IfErr, IfOk};
 ghost use Rattle.cell_types.specs.declared.geometry.TheConstants.{MAX_SLOTS};
 ghost use Rattle.term_tags.specs.Listing.{GivesListed, GivesNone, GivesPostings};
 
-use cell_types::Refusal;
+use cell_types::{NoMemory, Refusal};
 use std::alloc::Global;
 use term_tags::{
     KnownKeys, ListedPosting, Posting, document_postings, document_postings_by, postings,
@@ -49,4 +49,20 @@ pub fn document_postings_by_again(
     ensures same { known.new ≡ known.old }
 {
     document_postings_by(alloc, terms, known, slot, stamp)
+}
+
+/// `KnownKeys::for_one_document`.
+pub fn keys_of_one_again(alloc: Global, lists: u16) -> Result<KnownKeys, NoMemory>
+    requires { 1 ≤ lists }
+    ensures { IfOk result (λ known. known ≡ lists) }
+{
+    KnownKeys::for_one_document(alloc, lists)
+}
+
+/// `KnownKeys::for_many_documents`.
+pub fn keys_of_many_again(alloc: Global, lists: u16) -> Result<KnownKeys, NoMemory>
+    requires { 1 ≤ lists }
+    ensures { IfOk result (λ known. known ≡ lists) }
+{
+    KnownKeys::for_many_documents(alloc, lists)
 }

@@ -4,6 +4,8 @@ use Rattle.sha2.specs.Sha256.{sha256}
 use Rattle.cell_types.specs.Image.{Image}
 use Rattle.cell_types.specs.Layout.{Layout, root_at, done_at}
 use Rattle.cell_types.specs.declared.record_cell.RecordCell.TheVariants as records
+use Rattle.volume_meaning.specs.Buckets.{IsOwnBucket}
+use Rattle.volume_meaning.specs.declared.held_bucket.HeldBucket.{HeldBucket}
 use Rattle.volume_meaning.specs.HashPaths.{HashTrail, LeadsDown, here, below, fingerprint_of, nibble}
 use Rattle.volume_meaning.specs.Keeping.{sought_in}
 use Rattle.volume_meaning.proofs.HashTrails.{one_hash_trail}
@@ -16,8 +18,7 @@ use Rattle.document_store.proofs.Holding.{stands_held}
 use Rattle.log_audit.proofs.OneMore.{below_or_at}
 use Rattle.log_audit.proofs.Families.{AreFine}
 use Rattle.tree_audit.specs.Nodes.{HasChildInPool}
-use Rattle.tree_audit.specs.Paths.{HasRootTrail, IsOther, IsBucketOfSlot}
-use Rattle.tree_audit.specs.declared.looks.HeldBucket.{HeldBucket}
+use Rattle.tree_audit.specs.Paths.{HasRootTrail, IsOther}
 use Rattle.tree_audit.proofs.Closing.{one_target}
 
 buckets : (a b : ℕ) (f h : List ℕ) → records.Bucket a f ≡ records.Bucket b h → (a ≡ b) × (f ≡ h)
@@ -48,12 +49,12 @@ module _ {g : Layout} {image : Image} {id : List ℕ} {n level node : ℕ} (reac
 
   module _ (b : HeldBucket) (held : Holds image (node + nibble (sha256 id) level) (records.Bucket b.slot b.fingerprint)) where
     -- the bucket is the slot's own
-    pub own_bucket : IsBucketOfSlot b n (sha256 id) → HasRootTrail g image id n
+    pub own_bucket : IsOwnBucket b n (sha256 id) → HasRootTrail g image id n
     own_bucket own = (reached.on low).0 (here node level
         (subst (λ (f : List ℕ). Holds image (node + nibble (sha256 id) level) (records.Bucket n f)) own.1
         (subst (λ (m : ℕ). Holds image (node + nibble (sha256 id) level) (records.Bucket m b.fingerprint)) own.0 held)))
 
-    module _ (other : IsBucketOfSlot b n (sha256 id) → ⊥) where
+    module _ (other : IsOwnBucket b n (sha256 id) → ⊥) where
       -- and where it is not, a hash trail passes it and goes on below
       goes_below : HasRootTrail g image id n → IsOther g image id b
           × ((target : ℕ) × LeadsDown image (sought_in g.cells g id) node level target

@@ -5,7 +5,7 @@ use Rattle.cell_types.specs.Layout.{Layout}
 use Rattle.cell_types.specs.declared.record_cell.RecordCell.TheVariants as records
 use Rattle.volume_meaning.specs.Volumes.{Holds}
 use Rattle.tamper_rules.specs.Rules.{IsTrueBucket}
-use Rattle.tree_audit.specs.declared.looks.HeldBucket.{HeldBucket}
+use Rattle.volume_meaning.specs.declared.held_bucket.HeldBucket.{HeldBucket}
 
 -- what a look at a bucket answers
 abbrev pub BucketAnswers : Image → ℕ → Option HeldBucket → Type 0

@@ -7,17 +7,13 @@ use Rattle.volume_meaning.specs.HashPaths.{HashTrail, fingerprint_of, nibble}
 use Rattle.volume_meaning.specs.Keeping.{sought_in}
 use Rattle.volume_meaning.specs.Nodes.{IsOnPath}
 use Rattle.volume_meaning.specs.Documents.{Stands}
-use Rattle.tree_audit.specs.declared.looks.HeldBucket.{HeldBucket}
+use Rattle.volume_meaning.specs.declared.held_bucket.HeldBucket.{HeldBucket}
 
 -- the digest's path comes to the node, and goes by its bucket x there
 pub record GoesBy (g : Layout) (image : Image) (digest : List ℕ) (node x : ℕ) : Type 0 where
   pub level : ℕ
   pub on_path : IsOnPath g image digest level node
   pub here : x ≡ nibble digest level
-
--- the bucket is slot n's own, by a digest
-abbrev pub IsBucketOfSlot : HeldBucket → ℕ → List ℕ → Type 0
-IsBucketOfSlot b n digest = (b.slot ≡ n) × (b.fingerprint ≡ fingerprint_of digest)
 
 -- a hash trail passes the bucket: it has another fingerprint, or its slot stands with another identifier
 abbrev pub IsOther : Layout → Image → List ℕ → HeldBucket → Type 0

@@ -1,6 +1,5 @@
 //! Rule 11: the buckets of nodes.
-ghost use Rattle.std.specs.Prelude.{◌≡◌, ◌<◌, ◌+◌, ◌^◌, ◌↔◌, IsTrue};
-ghost use Rattle.volume_meaning.specs.HashPaths.{fingerprint_of};
+ghost use Rattle.std.specs.Prelude.{◌<◌, ◌+◌, ◌^◌, ◌↔◌, IsTrue};
 ghost use Rattle.volume_meaning.specs.Nodes.{IsNode};
 ghost use Rattle.tamper_rules.specs.Rules.{Buckets, Documents, IsTrueBucket};
 ghost use Rattle.log_audit.specs.KeptVolumes.{FindsIn, FindsPartIn, HasAllCells, IsStated, KeepsRule, image_in};
@@ -75,15 +74,8 @@ fn is_true_bucket(volume: &KeptVolume, node: u32, x: u32) -> bool
     let Some(digest) = digest_of(volume, bucket.slot) else {
         return false;
     };
-    if !is_fingerprint(&bucket.fingerprint, &digest) {
+    if !bucket.has_fingerprint(&digest) {
         return false;
     }
     goes_by(&volume.kept, &volume.geometry, &digest, node, x)
-}
-
-/// Whether these are the first seven bytes of the digest.
-pub(crate) fn is_fingerprint(fingerprint: &[u8; 7], digest: &[u8; 32]) -> bool
-    ensures { IsTrue result ↔ (fingerprint.now ≡ fingerprint_of digest.now) }
-{
-    fingerprint[..] == digest[..7]
 }

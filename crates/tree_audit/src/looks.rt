@@ -6,14 +6,7 @@ ghost use Rattle.tree_audit.specs.Buckets.{BucketAnswers};
 
 use cell_types::{Geometry, RecordCell};
 use log_audit::{KeptCells, lies_in_pool, record_at};
-use volume_meaning::NODE_CELLS;
-
-/// What a bucket says: the slot of a document, and the first bytes of its identifier's digest.
-#[derive(Clone, Copy)]
-pub struct HeldBucket {
-    pub slot: u32,
-    pub fingerprint: [u8; 7],
-}
+use volume_meaning::{HeldBucket, NODE_CELLS};
 
 /// What the bucket there says, if one stands there.
 pub(crate) fn bucket_at(kept: &KeptCells, at: u32) -> Option<HeldBucket>
@@ -22,10 +15,7 @@ pub(crate) fn bucket_at(kept: &KeptCells, at: u32) -> Option<HeldBucket>
     let Some(held) = record_at(kept, at) else {
         return None;
     };
-    let RecordCell::Bucket { slot, fingerprint } = held else {
-        return None;
-    };
-    Some(HeldBucket { slot, fingerprint })
+    HeldBucket::of(held)
 }
 
 /// The node to which the child cell there leads, if there is one whose cells lie in the pool.

@@ -34,7 +34,7 @@ pub(crate) fn is_in_span(
         return false;
     };
     let width = span_width(level);
-    let low = u64::from(greatest.key()) + u64::from(digit) * width;
+    let low = u64::from(greatest.key) + u64::from(digit) * width;
     has_key_between(kept, target, low, low + width)
 }
 
@@ -65,7 +65,7 @@ fn has_key_between(kept: &KeptCells, block: u32, low: u64, high: u64) -> bool
         let Some(posting) = posting_at(kept, block + place) else {
             continue;
         };
-        let key = u64::from(posting.key());
+        let key = u64::from(posting.key);
         if key < low {
             continue;
         }

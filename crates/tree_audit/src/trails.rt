@@ -5,11 +5,10 @@ ghost use Rattle.volume_meaning.specs.declared.limits.TheConstants.{MAX_IDENTIFI
 ghost use Rattle.tamper_rules.specs.Rules.{Documents, Paths};
 ghost use Rattle.document_store.specs.Heads.{id_of};
 ghost use Rattle.log_audit.specs.KeptVolumes.{FindsIn, HasAllCells, IsStated, KeepsRule, image_in};
-ghost use Rattle.tree_audit.specs.Paths.{HasRootTrail, IsOther, IsBucketOfSlot};
+ghost use Rattle.tree_audit.specs.Paths.{HasRootTrail, IsOther};
 
-use crate::buckets::is_fingerprint;
 use crate::documents::{head_of, identifier, same_identifier};
-use crate::looks::{HeldBucket, bucket_at, child_at};
+use crate::looks::{bucket_at, child_at};
 use crate::paths::LEVELS;
 use cell_types::Evidence;
 use document_store::Head;
@@ -17,7 +16,7 @@ use hash_tree::nibble_of;
 use log_audit::KeptVolume;
 use sha2::{Digest, Sha256};
 use tamper_rules::MISSING_PATH;
-use volume_meaning::NODE_BUCKETS;
+use volume_meaning::{HeldBucket, NODE_BUCKETS};
 
 /// The first done cell at which rule 14 is broken, where rule 4 is kept. Only hash trails are looked for: of two
 /// documents with one identifier one alone has such a trail.
@@ -63,7 +62,7 @@ fn has_hash_trail(volume: &KeptVolume, slot: u32, head: &Head) -> bool
         let Some(bucket) = bucket_at(&volume.kept, node + x) else {
             return false;
         };
-        if is_own(&bucket, slot, &digest) {
+        if bucket.is_own(slot, &digest) {
             return true;
         }
         if !is_passed(volume, &bucket, head, &digest) {
@@ -77,16 +76,6 @@ fn has_hash_trail(volume: &KeptVolume, slot: u32, head: &Head) -> bool
     false
 }
 
-/// Whether the bucket is the slot's own.
-fn is_own(bucket: &HeldBucket, slot: u32, digest: &[u8; 32]) -> bool
-    ensures { IsTrue result ↔ IsBucketOfSlot bucket.now slot digest.now }
-{
-    if bucket.slot != slot {
-        return false;
-    }
-    is_fingerprint(&bucket.fingerprint, digest)
-}
-
 /// Whether a hash trail of the head's identifier passes the bucket.
 fn is_passed(volume: &KeptVolume, bucket: &HeldBucket, head: &Head, digest: &[u8; 32]) -> bool
     requires stated { IsStated volume.now }
@@ -96,7 +85,7 @@ fn is_passed(volume: &KeptVolume, bucket: &HeldBucket, head: &Head, digest: &[u8
     requires digest { digest.now ≡ sha256 (id_of head.now) }
     ensures { IsTrue result ↔ IsOther volume.now.geometry (image_in volume.now) (id_of head.now) bucket.now }
 {
-    if !is_fingerprint(&bucket.fingerprint, digest) {
+    if !bucket.has_fingerprint(digest) {
         return true;
     }
     let Some(other) = head_of(volume, bucket.slot) else {

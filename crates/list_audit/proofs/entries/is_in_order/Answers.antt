@@ -1,5 +1,5 @@
 -- No posting stands there; it is the first; none stands before it; and one does.
-use Rattle.std.proofs.Common.{inl, arith}
+use Rattle.std.proofs.Common.{inl, refl, arith}
 use Rattle.log_audit.specs.Kept.{image_of_kept}
 use Rattle.log_audit.proofs.Deciding.{no, yes}
 use Rattle.list_audit.proofs.Ordered.{ordered_behind, none_before}
@@ -16,4 +16,4 @@ returns-in_default-posting_at c = no (none_before (omega (arith, c.if-place-eq0.
 
 pub returns : goal.returns
 returns c = ordered_behind (image_of_kept c.args.kept.now) c.args.block c.args.place c.in-Some.posting c.in-Some-posting_at.before _ _
-    (omega (arith, c.if-place-eq0.false)) c.in-Some.ensures.some c.in-Some-posting_at.ensures.some c.key.ensures c.key-2.ensures
+    (omega (arith, c.if-place-eq0.false)) c.in-Some.ensures.some c.in-Some-posting_at.ensures.some refl refl

@@ -1,8 +1,7 @@
 -- The block lies on the device, and its entries are its front; the place of the key is in the block, or the block is full.
-use Rattle.std.proofs.Common.{◌≤◌, ◌+◌, ℕ, subst, arith}
+use Rattle.std.proofs.Common.{◌≤◌, ◌+◌, arith}
 use Rattle.log_audit.specs.Kept.{image_of_kept}
 use Rattle.list_audit.proofs.Closing.{block_inside}
-use Rattle.list_audit.specs.Trails.{IsPlaceOfKey}
 use Rattle.list_audit.proofs.Stepping.{all_front, by_place}
 use Rattle.list_audit.proofs.steps.step_from.Goals as goal
 
@@ -27,5 +26,5 @@ step_on-requires-clause-room c =
 pub returns-then-place-from : goal.returns-then-place-from
 returns-then-place-from c = by_place c.args.geometry.now (image_of_kept c.args.kept.now) c.args.listed.now.list c.args.listed.now.block c.place_of-place.result
     c.args.posting.now c.step_at.result (all_front c.requires.entries c.requires.block)
-    (subst (λ (k : ℕ). IsPlaceOfKey (image_of_kept c.args.kept.now) c.args.listed.now.block k c.place_of-place.result) c.key.ensures c.place_of-place.ensures)
+    c.place_of-place.ensures
     (omega (arith, c.if-place-from.true, c.from.ensures)) c.step_at.ensures

@@ -1,5 +1,5 @@
 -- A number of three parts is taken apart.
-use Rattle.std.proofs.Common.{◌≡◌, ℕ, List, ap, ◌∙◌, arith}
+use Rattle.std.proofs.Common.{◌≡◌, ℕ, List, ap, arith}
 use Rattle.list_audit.specs.Tables.{number_of}
 use Rattle.list_audit.proofs.Tabling.{same_posting}
 use Rattle.list_audit.proofs.table.listed_in.Goals as goal
@@ -9,6 +9,5 @@ returns c = λ l p fits is.
     let number : c.args.row.now.0 ≡ number_of l p.key p.last = ap (λ (x : ℕ × List ℕ). x.0) is in
     let tag : c.args.row.now.1 ≡ p.tag = ap (λ (x : ℕ × List ℕ). x.1) is in (
       omega (arith, number, fits.list, fits.key, fits.last),
-      c.new.ensures
-          ∙ same_posting _ p (omega (arith, number, fits.list, fits.key, fits.last)) (omega (arith, number, fits.list, fits.key, fits.last)) tag,
+      same_posting _ p (omega (arith, number, fits.list, fits.key, fits.last)) (omega (arith, number, fits.list, fits.key, fits.last)) tag,
     )

@@ -16,11 +16,11 @@ returns-in_default-digest_of c =
     no (λ t. (c.in_default-digest_of).ensures.none t.id t.body
     (subst (λ (n : ℕ). Stands g.cells image n t.id t.body) (same_slot g image c.args.node c.args.x b.slot b.fingerprint c.in-Some.ensures t).0 t.stands))
 
-pub returns-then-not-is_fingerprint : goal.returns-then-not-is_fingerprint
-returns-then-not-is_fingerprint c =
+pub returns-then-not-has_fingerprint : goal.returns-then-not-has_fingerprint
+returns-then-not-has_fingerprint c =
     let g = c.args.volume.now.geometry in let image = image_in c.args.volume.now in
     let b = c.in-Some.bucket in
-    no (λ t. decided_no _ c.is_fingerprint.ensures c.if-not-is_fingerprint.true
+    no (λ t. decided_no _ c.has_fingerprint.ensures c.if-not-has_fingerprint.true
     (true_fingerprint g image c.args.node c.args.x b.slot b.fingerprint c.in-Some.ensures _ (c.in-Some-digest_of).ensures.some t))
 
 pub returns : goal.returns
@@ -29,7 +29,7 @@ returns c =
     let b = c.in-Some.bucket in
     let digest = (c.in-Some-digest_of).digest in
     let d = (c.in-Some-digest_of).ensures.some in
-    let same = decided_yes _ c.is_fingerprint.ensures c.if-not-is_fingerprint.false in (
+    let same = decided_yes _ c.has_fingerprint.ensures c.if-not-has_fingerprint.false in (
       λ yes. is_true g image c.args.node c.args.x b.slot b.fingerprint c.in-Some.ensures digest d same (c.goes_by.ensures.0 yes),
       λ t. c.goes_by.ensures.1 (true_path g image c.args.node c.args.x b.slot b.fingerprint c.in-Some.ensures digest d t),
     )

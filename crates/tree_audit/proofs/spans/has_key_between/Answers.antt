@@ -15,13 +15,13 @@ pub loop-place-preserved-then-key-low : goal.loop-place-preserved-then-key-low
 loop-place-preserved-then-key-low c = none_more (image_of_kept c.args.kept.now) c.args.block c.loop-place.invariant
     (λ p holds above below.
     let same = one_posting (image_of_kept c.args.kept.now) _ p c.in-Some.posting holds c.in-Some.ensures.some in
-    omega (arith, ap (λ (q : PostingFields). q.key) same, above, c.if-key-low.true, c.from-key.ensures, c.key.ensures))
+    omega (arith, ap (λ (q : PostingFields). q.key) same, above, c.if-key-low.true, c.from-key.ensures))
 
 pub loop-place-preserved : goal.loop-place-preserved
 loop-place-preserved c = none_more (image_of_kept c.args.kept.now) c.args.block c.loop-place.invariant
     (λ p holds above below.
     let same = one_posting (image_of_kept c.args.kept.now) _ p c.in-Some.posting holds c.in-Some.ensures.some in
-    omega (arith, ap (λ (q : PostingFields). q.key) same, below, c.if-key-high.false, c.from-key.ensures, c.key.ensures))
+    omega (arith, ap (λ (q : PostingFields). q.key) same, below, c.if-key-high.false, c.from-key.ensures))
 
 pub returns : goal.returns
 returns c = no (none_there (image_of_kept c.args.kept.now) c.args.block c.loop-place.invariant (omega (arith, c.loop-place-test.false)))

@@ -34,4 +34,4 @@ returns c =
     spans_tell g image c.requires.entries c.args.listed.now.list c.args.listed.now.block c.requires.block c.in-Some.greatest
     c.in-Some.ensures.some c.requires.target (in_front g image c.requires.entries c.args.listed.now.list c.args.target c.requires.target)
     c.requires.level c.requires.some c.requires.digit
-    (omega (arith, product, c.from.ensures, c.key.ensures)) (omega (arith, width)) c.has_key_between.result c.has_key_between.ensures
+    (omega (arith, product, c.from.ensures)) (omega (arith, width)) c.has_key_between.result c.has_key_between.ensures

@@ -7,19 +7,19 @@ use Rattle.log_audit.proofs.Deciding.{no, yes, decided_no, decided_yes}
 use Rattle.tree_audit.proofs.Trailing.{unread_not_passed, same_not_passed}
 use Rattle.tree_audit.proofs.trails.is_passed.Goals as goal
 
-pub returns-then-not-is_fingerprint : goal.returns-then-not-is_fingerprint
-returns-then-not-is_fingerprint c = yes (inl (λ same. decided_no _ c.is_fingerprint.ensures c.if-not-is_fingerprint.true
+pub returns-then-not-has_fingerprint : goal.returns-then-not-has_fingerprint
+returns-then-not-has_fingerprint c = yes (inl (λ same. decided_no _ c.has_fingerprint.ensures c.if-not-has_fingerprint.true
     (same ∙ ap fingerprint_of (sym c.requires.digest))))
 
 pub returns-in_default : goal.returns-in_default
 returns-in_default c = let volume = c.args.volume.now in
-    let same = decided_yes _ c.is_fingerprint.ensures c.if-not-is_fingerprint.false ∙ ap fingerprint_of
+    let same = decided_yes _ c.has_fingerprint.ensures c.if-not-has_fingerprint.false ∙ ap fingerprint_of
     c.requires.digest in
     no (unread_not_passed volume.geometry (image_in volume) c.args.bucket.now same c.in_default.ensures.none)
 
 pub returns-then-same_identifier : goal.returns-then-same_identifier
 returns-then-same_identifier c = let volume = c.args.volume.now in
-    let same = decided_yes _ c.is_fingerprint.ensures c.if-not-is_fingerprint.false ∙ ap fingerprint_of
+    let same = decided_yes _ c.has_fingerprint.ensures c.if-not-has_fingerprint.false ∙ ap fingerprint_of
     c.requires.digest in
     let other = c.in-Some.ensures.some in
     no (same_not_passed volume.geometry (image_in volume) c.args.bucket.now same _ other.body other.stands
