@@ -18,6 +18,11 @@
 //! program ends with.
 #![tactic(auto)]
 
+mod answering;
 mod carrying;
+mod copying;
+mod in_memory;
+mod one_file;
+mod words;
 
 pub use carrying::carry_out;

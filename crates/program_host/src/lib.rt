@@ -9,12 +9,16 @@
 
 mod arguments;
 mod fault;
+mod file_number;
+mod host;
 mod opening;
 mod terminal;
 mod waiting;
 
 pub use arguments::words;
 pub use fault::Fault;
-pub use opening::{FileNumber, HeldFile, device_over, hold_both, open};
+pub use file_number::FileNumber;
+pub use host::FileHost;
+pub use opening::{HeldFile, SystemFiles};
 pub use terminal::Terminal;
 pub use waiting::WaitingFile;
