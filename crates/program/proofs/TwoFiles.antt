@@ -43,7 +43,8 @@ module _ {H F : Type 0} {Opened : H → List ℕ → Option F → H → Type 0}
 
   -- the paths lead to two files, and both were opened and held
   pub were_opened : {image target : List ℕ} {one other : Option FileNumber} {old opened new : H}
-      {from to from_held to_held : F} (first numbered between : H) → Numbered old image one first → Numbered first target other numbered
+      {from to from_held to_held : F} (first numbered between : H) → Numbered old image one first
+      → Numbered first target other numbered
       → ¬ IsSame one other → Opened numbered image (Some from) between → Opened between target (Some to) opened
       → AreHeld Held one other from from_held to to_held opened new
       → WereOpened Opened Numbered Held image target from to old new

@@ -30,8 +30,8 @@ IsSame (Some one) (Some other) = one ≡ other
 IsSame (Some one) None = ⊥
 IsSame None other = ⊥
 
--- The first of two files is held before the second, by whoever holds both. Where the host does not tell which files they
--- are, it is, too.
+-- The first of two files is held before the second, by whoever holds both. Where the host does not tell which files
+-- they are, it is, too.
 abbrev pub IsFirst : Option FileNumber → Option FileNumber → Type 0
 IsFirst (Some one) (Some other) =
     (one.device < other.device) ⊎ ((one.device ≡ other.device) × (one.inode < other.inode))

@@ -20,7 +20,8 @@ pub data CarriesOut {H F : Type 0} (Opened : H → List ℕ → Option F → H �
       → image ≢ codes "-" → result ≡ Err Usage → new ≡ old → CarriesOut Opened Numbered Held state words old new result
   -- the image is a hyphen: the command has one blank cell in memory
   in_memory : (rest : List (List ℕ)) → words ≡ codes "-" ∷ rest → ¬ IsOfCopy rest → new.host ≡ old.host
-      → WorksInMemory rest old.source new.source old.sink new.sink result → CarriesOut Opened Numbered Held state words old new result
+      → WorksInMemory rest old.source new.source old.sink new.sink result
+      → CarriesOut Opened Numbered Held state words old new result
   -- the image is a path: the command has the file to which it leads
   on_file : (image : List ℕ) (rest : List (List ℕ)) → words ≡ image ∷ rest → ¬ IsOfCopy rest → ¬ IsHyphened image
       → WorksOver Opened state image rest old new result → CarriesOut Opened Numbered Held state words old new result

@@ -82,8 +82,8 @@ pub record RanOnto {F : Type 0} (state : F → FileState) (words : List (List �
   pub runs : RunsCopy words from (device_over from_cells from_reads (state from_left))
       to (device_over to_cells to_reads (state to_left)) (gathered_of no_text) (gathered_of text) done
 
--- Two files were opened at these paths, and the copy ran from one to the other, of which nothing was read before. Then the
--- text that it had put out went into the sink.
+-- Two files were opened at these paths, and the copy ran from one to the other, of which nothing was read before. Then
+-- the text that it had put out went into the sink.
 pub record WasCopied {H F : Type 0} (Opened : H → List ℕ → Option F → H → Type 0)
     (Numbered : H → List ℕ → Option FileNumber → H → Type 0) (Held : H → F → F → F → F → H → Type 0)
     (state : F → FileState) (image target : List ℕ) (words : List (List ℕ)) (old new : H) (sink sink' : SinkState)

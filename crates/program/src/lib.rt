@@ -12,9 +12,9 @@
 //! and the status 5. Where the first word is `-`, the device is one blank cell in memory. A `copy` has a second file.
 //!
 //! It is generic over the host and its files (`FileHost`), so that a clause can say which file was opened, and that the
-//! command ran over it: a body that opens none, or carries out nothing, is refused. `specs/Carrying.antt` lists what the
-//! words may name, and leads to what is done then. Over the operating system the transcript of `worked_files` shows it, which
-//! the gate compares.
+//! command ran over it: a body that opens none, or carries out nothing, is refused. `specs/Carrying.antt` lists what
+//! the words may name, and leads to what is done then. Over the operating system the transcript of `worked_files` shows
+//! it, which the gate compares.
 //!
 //! Stands on `record_top`, which carries commands out, and on `program_host`, which opens files and has the fault that the
 //! program ends with. Begin with `carrying.rt`.

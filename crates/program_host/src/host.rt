@@ -9,8 +9,8 @@ use host_files::HostFile;
 
 /// A host with files, which its paths lead to.
 ///
-/// Whoever is generic over it comes to a file by a call of it alone, and knows nothing of a state of the host but by which
-/// calls it was come to. So no body meets a clause on `opened` that opens another file, or none.
+/// Whoever is generic over it comes to a file by a call of it alone, and knows nothing of a state of the host but by
+/// which calls it was come to. So no body meets a clause on `opened` that opens another file, or none.
 pub trait FileHost {
     /// A file that is open.
     type File: HostFile + Drop;
@@ -21,7 +21,8 @@ pub trait FileHost {
     /// Which file this path leads to, if to any, was asked.
     ghost numbered: { Self → List ℕ → Option FileNumber → Self → Type 0 };
 
-    /// The first file was held, and then the second, if both were to be had; of each there is what it was and what it is.
+    /// The first file was held, and then the second, if both were to be had: of each there is what it was, and what it
+    /// is.
     ghost held: { Self → Self.File → Self.File → Self.File → Self.File → Self → Type 0 };
 
     /// Opens a file that exists, for reading and, where the host allows it, writing. It neither makes nor empties one.
@@ -34,8 +35,8 @@ pub trait FileHost {
     fn number_of(&mut self, path: &str) -> Option<FileNumber>
         ensures { numbered self.old path.now result self.new };
 
-    /// Waits until nobody else holds either file, the first one first, and holds both until they are closed. A file that
-    /// can't be held says so again at its first read, and why is told then.
+    /// Waits until nobody else holds either file, the first one first, and holds both until they are closed. A file
+    /// that can't be held says so again at its first read, and why is told then.
     fn hold_both(&mut self, first: &mut Self::File, second: &mut Self::File)
         ensures held { held self.old first.old first.new second.old second.new self.new }
         ensures first { Self.File.state first.new ≡ Self.File.state first.old }

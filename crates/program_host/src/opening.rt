@@ -36,8 +36,8 @@ impl<R> Drop for SystemFiles<'_, R> {
     }
 }
 
-/// The calls of the operating system. That each does what is said of it is trusted: of this host `opened` and `numbered` say
-/// nothing.
+/// The calls of the operating system. That each does what is said of it is trusted: of this host `opened` and
+/// `numbered` say nothing.
 impl<R: Files<File: HostCalls>> FileHost for SystemFiles<'_, R> {
     type File = HeldFile<R::File>;
 
@@ -71,8 +71,8 @@ impl<R: Files<File: HostCalls>> FileHost for SystemFiles<'_, R> {
     }
 }
 
-/// Waits until nobody else holds either file, the first one first: where all keep to one order, no two programs wait for
-/// each other.
+/// Waits until nobody else holds either file, the first one first: where all keep to one order, no two programs wait
+/// for each other.
 fn hold_in_order<F: HostCalls>(first: &mut HeldFile<F>, second: &mut HeldFile<F>)
     ensures order { HoldsInOrder ⟦<WaitingFile<F> as HostCalls>⟧.made first.old first.new second.old second.new }
     ensures first { os_file_state first.new ≡ os_file_state first.old }
