@@ -11,13 +11,20 @@
 //! and with `nothing.img` in front, where no such file is, it ends with `Fault::Image`: the line `image cannot be opened`
 //! and the status 5. Where the first word is `-`, the device is one blank cell in memory. A `copy` has a second file.
 //!
-//! No clause says what a file of the operating system holds, nor so what the program does to it: that is said of `run` and
-//! `run_two` over any file, and shown here by the transcript of `worked_files`, which the gate compares.
+//! It is generic over the host and its files (`FileHost`), so that a clause can say which file was opened, and that the
+//! command ran over it: a body that opens none, or carries out nothing, is refused. `specs/Carrying.antt` lists what
+//! the words may name, and leads to what is done then. Over the operating system the transcript of `worked_files` shows
+//! it, which the gate compares.
 //!
 //! Stands on `record_top`, which carries commands out, and on `program_host`, which opens files and has the fault that the
-//! program ends with.
+//! program ends with. Begin with `carrying.rt`.
 #![tactic(auto)]
 
+mod answering;
 mod carrying;
+mod copying;
+mod in_memory;
+mod one_file;
+mod words;
 
 pub use carrying::carry_out;

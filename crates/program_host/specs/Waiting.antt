@@ -1,5 +1,5 @@
 -- What a file that says what it waits for asks of the file of the host below it.
-use Rattle.std.specs.Prelude.{◌≡◌, ◌⊎◌, true, false, [], ◌∷◌, Some, None}
+use Rattle.std.specs.Prelude.{◌⊎◌, true, false, [], ◌∷◌, Some, None}
 use Rattle.host_files.specs.HostCalls.{HostCall, ToHold, ToTryHold, Made}
 use Rattle.program_host.specs.declared.waiting.WaitingFile.{WaitingFile}
 

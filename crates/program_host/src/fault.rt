@@ -1,4 +1,7 @@
 //! Why a command was not done, as a line and a status.
+ghost use Rattle.std.specs.Prelude.{◌≡◌};
+ghost use Rattle.program_host.specs.Faults.{fault_of, fault_of_copy};
+
 use cell_types::{CopyRefusal, Refusal};
 use thiserror::Error;
 
@@ -23,6 +26,8 @@ pub enum Fault {
 }
 
 impl From<Refusal> for Fault {
+    ghost from_gives = { λ refusal fault. fault ≡ fault_of refusal };
+
     fn from(refusal: Refusal) -> Fault {
         match refusal {
             Refusal::Usage => Fault::Usage,
@@ -32,6 +37,8 @@ impl From<Refusal> for Fault {
 }
 
 impl From<CopyRefusal> for Fault {
+    ghost from_gives = { λ refusal fault. fault ≡ fault_of_copy refusal };
+
     fn from(refusal: CopyRefusal) -> Fault {
         match refusal {
             CopyRefusal::Usage => Fault::Usage,

@@ -3,6 +3,7 @@ use cell_types::NoMemory;
 use host_files::HostCalls;
 use host_ports::{MemorySink, MemorySource};
 use program::carry_out;
+use program_host::SystemFiles;
 use std::alloc::{AllocError, Global};
 use std::fs;
 use std::io::{self, ErrorKind, Seek, Stderr, Write};
@@ -98,7 +99,8 @@ fn run_program(
     let mut sink = MemorySink::new(alloc);
     sink.reserve(SINK_BYTES)?;
     let done = carry_out(
-        rt,
+        alloc,
+        &mut SystemFiles::new(rt, standard_error),
         words_of(alloc, words)?,
         &mut source,
         &mut sink,

@@ -36,7 +36,7 @@
 use host_files::HostCalls;
 use host_ports::{StdSink, StdSource};
 use program::carry_out;
-use program_host::{Fault, words};
+use program_host::{Fault, SystemFiles, words};
 use std::io::{self, Stderr};
 use std::process::ExitCode;
 use std::rt::{Env, Files};
@@ -60,5 +60,13 @@ fn begin(
     let words = words(rt)?;
     let mut source = StdSource::new(rt.reader());
     let mut sink = StdSink::new(io::writer(rt));
-    carry_out(rt, words, &mut source, &mut sink, standard_error)
+    let mut files = SystemFiles::new(rt, standard_error);
+    carry_out(
+        rt.alloc(),
+        &mut files,
+        words,
+        &mut source,
+        &mut sink,
+        standard_error,
+    )
 }

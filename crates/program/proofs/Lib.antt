@@ -1,0 +1,4 @@
+mod InMemory
+mod OneFile
+mod Target
+mod TwoFiles

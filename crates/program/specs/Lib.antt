@@ -1,0 +1,5 @@
+pub mod Asking
+pub mod Carrying
+pub mod InMemory
+pub mod OneFile
+pub mod TwoFiles
