@@ -1,7 +1,7 @@
 //! A command, carried out by the words that ask for it.
 ghost use Rattle.std.specs.Prelude.{map};
 ghost use Rattle.std.specs.String.{string_bytes};
-ghost use Rattle.program.specs.Carrying.{CarriesOut};
+ghost use Rattle.program.specs.Carrying.{WorksByWords};
 ghost use Rattle.program.specs.OneFile.{world_of};
 
 use crate::copying::copy;
@@ -24,7 +24,7 @@ pub fn carry_out<H: FileHost, S: Source, K: Sink>(
     sink: &mut K,
     standard_error: Stderr,
 ) -> Result<(), Fault>
-    ensures { CarriesOut H.opened H.numbered H.held H.File.state (map string_bytes words.items)
+    ensures { WorksByWords H.opened H.numbered H.held H.File.state (map string_bytes words.items)
         (world_of host.old (S.state source.old) (K.state sink.old))
         (world_of host.new (S.state source.new) (K.state sink.new)) result }
 {
