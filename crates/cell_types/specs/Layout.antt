@@ -2,7 +2,7 @@
 -- slot, 256 cells for each list's first block, 32 cells for the root node, 256 cells for the first block of the time
 -- list where the version has one, and the pool to the end.
 use Rattle.std.specs.Prelude.{◌≡◌, ◌<◌, ◌≤◌, ◌+◌, ◌-◌, ◌*◌, min, ℕ}
-use Rattle.cell_types.specs.declared.geometry.TheConstants.{MAX_SLOTS, MAX_LISTS, MAX_CELLS, FIRST_VERSION, FOLDED_VERSION, NEWEST_VERSION}
+use Rattle.cell_types.specs.declared.geometry.TheConstants.{MAX_SLOTS, MAX_LISTS, MAX_CELLS, FIRST_VERSION, FOLDED_VERSION, NEWEST_VERSION, STAMPED_VERSION}
 
 -- the numbers of slots and lists of a volume, of the cells of its device, and of its version
 pub record Layout : Type 0 where
@@ -10,6 +10,14 @@ pub record Layout : Type 0 where
   pub lists : ℕ
   pub cells : ℕ
   pub version : ℕ
+
+-- each document of such a volume has a stamp
+abbrev pub TakesStamps : Layout → Type 0
+TakesStamps g = g.version ≡ STAMPED_VERSION
+
+-- the volume is of an older version, whose documents have none
+abbrev pub TakesNoStamps : Layout → Type 0
+TakesNoStamps g = g.version < STAMPED_VERSION
 
 -- the four cells of slot n
 abbrev pub reserve_at : ℕ → ℕ

@@ -6,9 +6,9 @@
 //!     1-3     stay blank             292 to 547   first block of list 1
 //!     4-7     slot 0                 548 to 579   root node
 //!     32-35   slot 7                 580 to 999   pool
-ghost use Rattle.std.specs.Prelude.{◌≡◌, ◌<◌, ◌≤◌, ◌+◌, ◌-◌, ◌*◌, ◌↔◌, min, IsSome, IfSome};
+ghost use Rattle.std.specs.Prelude.{◌≡◌, ◌<◌, ◌≤◌, ◌+◌, ◌-◌, ◌*◌, ◌↔◌, min, IsSome, IfSome, IsTrue};
 ghost use Rattle.cell_types.specs.declared.geometry.TheConstants.{FIRST_VERSION, FOLDED_VERSION, MAX_SLOTS, MAX_LISTS, NEWEST_VERSION, STAMPED_VERSION};
-ghost use Rattle.cell_types.specs.Layout.{IsLayout, PartsAreApart, PartsCoverTheDevice};
+ghost use Rattle.cell_types.specs.Layout.{IsLayout, PartsAreApart, PartsCoverTheDevice, TakesStamps};
 ghost use Rattle.cell_types.specs.Layout as layout;
 
 use std::marker::Model;
@@ -113,6 +113,14 @@ impl Geometry {
         self.version
     }
 
+    /// Whether each document of the volume has a stamp.
+    pub fn is_stamped(&self) -> bool
+        ensures stamped { IsTrue result ↔ TakesStamps self.now }
+        ensures exists { IsLayout self.now }
+    {
+        self.version == STAMPED_VERSION
+    }
+
     /// The reserve cell of a slot.
     pub fn reserve_at(&self, n: u32) -> u32
         requires { n < self.now.slots }
@@ -184,7 +192,7 @@ impl Geometry {
 
     /// The first cell of the first block of the time list.
     pub fn time_at(&self) -> u32
-        requires { self.now.version ≡ STAMPED_VERSION }
+        requires { TakesStamps self.now }
         ensures at { result ≡ layout.list_at self.now self.now.lists }
         ensures inside { result + 256 ≤ self.now.cells }
     {

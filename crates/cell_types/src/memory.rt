@@ -119,7 +119,8 @@ pub fn extend_from_slice<T: Copy>(items: &mut Vec<T>, more: &[T]) -> Result<(), 
 /// This text more, behind the other. Without memory what is there stays.
 #[inline(always)]
 pub fn push_str(text: &mut String, more: &str) -> Result<(), NoMemory>
-    ensures bytes { string_bytes text.new ≡ (if is_ok result then string_bytes text.old ++ more.now else string_bytes text.old) }
+    ensures bytes { string_bytes text.new
+        ≡ (if is_ok result then string_bytes text.old ++ more.now else string_bytes text.old) }
 {
     match text.push_str(more) {
         Ok(()) => Ok(()),
@@ -130,7 +131,8 @@ pub fn push_str(text: &mut String, more: &str) -> Result<(), NoMemory>
 /// This character more, behind the text. Without memory what is there stays.
 #[inline(always)]
 pub fn push_char(text: &mut String, more: char) -> Result<(), NoMemory>
-    ensures bytes { string_bytes text.new ≡ (if is_ok result then string_bytes text.old ++ encode_utf8 more else string_bytes text.old) }
+    ensures bytes { string_bytes text.new
+        ≡ (if is_ok result then string_bytes text.old ++ encode_utf8 more else string_bytes text.old) }
 {
     match text.push(more) {
         Ok(()) => Ok(()),
