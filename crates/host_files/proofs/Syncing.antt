@@ -26,6 +26,7 @@ syncs_at cells reads faults faults' parts told told' (Err failed) stands later c
       leaves = leaves_all _ _ (λ image between. inl between);
       only = λ still cell. refl;
       answer = λ tells. tt;
+      step = λ tells. tt;
       cause = cause;
       count = refl;
     })
@@ -34,6 +35,7 @@ syncs_at cells reads faults faults' parts None None (Ok done) stands later cause
   leaves = leaves_all _ _ (λ image between. inl between);
   only = λ still cell. refl;
   answer = λ tells. absurd (false≢true tells);
+  step = λ tells. absurd (false≢true tells);
   cause = cause;
   count = refl;
 }
@@ -58,6 +60,7 @@ syncs_at cells reads faults faults' parts (Some old) (Some new) (Ok done) stands
       ));
       only = λ still cell. ap (λ b. image_of_bytes cells b cell) bytes;
       answer = λ tells. now;
+      step = λ tells. omega (arith, step.later);
       cause = cause;
       count = refl;
     }

@@ -41,6 +41,9 @@ called_same cells reads reads' faults faults' parts parts' told more_reads more_
     past = λ m before. refl;
     last = λ later. absurd (omega (arith, later));
     still = λ same. refl;
+    steps = omega arith;
+    steps_past = λ m before. refl;
+    steps_since = λ m from before. absurd (omega (arith, from, before));
   });
 }
 
@@ -110,5 +113,8 @@ called_step cells reads faults faults' parts parts' old new held step image sure
     past = λ m before. ap (held_instant cells) (step.past m before);
     last = λ later. ap (held_instant cells) step.last;
     still = λ same. absurd (omega (arith, step.later, same));
+    steps = omega (arith, step.later);
+    steps_past = λ m before. refl;
+    steps_since = λ m from before. omega (arith, from);
   });
 }

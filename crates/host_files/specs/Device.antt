@@ -1,5 +1,5 @@
 -- What a device over a file is for contracts.
-use Rattle.std.specs.Prelude.{◌<◌, ℕ, [], Option, Some, None, is_some}
+use Rattle.std.specs.Prelude.{◌<◌, ◌+◌, ℕ, [], Option, Some, None, is_some}
 use Rattle.cell_types.specs.Image.{Extends}
 use Rattle.worm_device.specs.State.{DeviceState, Instant}
 use Rattle.host_files.specs.File.{FileState, HeldBytes, Told}
@@ -28,7 +28,7 @@ abbrev pub moment_in : Option Told → ℕ
 moment_in None = 0
 moment_in (Some told) = told.moment
 
--- so many cells, reads, faults and parts, and what is told
+-- so many cells, reads, faults and parts, and what is told. Its steps are the changes of the file: each ends a moment.
 abbrev pub device_at : ℕ → ℕ → ℕ → ℕ → Option Told → DeviceState
 device_at cells reads faults parts told = record {
   cells = cells;
@@ -41,6 +41,8 @@ device_at cells reads faults parts told = record {
   begun = [];
   moment = moment_in told;
   past = past_in cells told;
+  steps = moment_in told;
+  steps_at = λ moment. moment + 1;
 }
 
 -- The first so many cells of a file as a device, of which so many were read. What a failed write has left in part

@@ -54,6 +54,8 @@ base_of count image = record {
   begun = [];
   moment = 0;
   past = λ m. record { image = image; sure = image };
+  steps = 0;
+  steps_at = λ m. 0;
 }
 
 -- the view that shows this image of so many cells

@@ -20,6 +20,8 @@ listed_device listed cells = record {
   begun = [];
   moment = 0;
   past = λ m. record { image = listed_image listed; sure = listed_image listed };
+  steps = 0;
+  steps_at = λ m. 0;
 }
 
 -- the listed cells as a view of so many cells

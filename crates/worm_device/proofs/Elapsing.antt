@@ -1,7 +1,8 @@
 -- Time that goes on: what a crash could have left, over one call after another.
-use Rattle.std.proofs.Common.{◌≡◌, ◌<◌, ◌≤◌, refl, sym, ap, ◌∙◌, inl, inr, ⊎_elim, arith}
+use Rattle.std.proofs.Common.{◌≡◌, ◌<◌, ◌≤◌, refl, sym, ap, ◌∙◌, inl, inr, ⊎_elim, subst, arith}
 use Rattle.std.proofs.lemmas.Bool.{cases_lt}
 use Rattle.cell_types.specs.Image.{Image, Between}
+use Rattle.worm_device.specs.Counts.{Rose}
 use Rattle.worm_device.specs.State.{DeviceState, LeftSince}
 use Rattle.worm_device.specs.Calls.{Elapses, HasElapsed, LeavesAll, Called, Remembers, HasRemembered}
 use Rattle.worm_device.proofs.Images.{extends_self, extends_then, between_wider}
@@ -47,6 +48,9 @@ remembers_self s = record {
   past = λ m before. refl;
   last = λ later. absurd (omega (arith, later));
   still = λ same. refl;
+  steps = omega arith;
+  steps_past = λ m before. refl;
+  steps_since = λ m from before. absurd (omega (arith, from, before));
 }
 
 pub remembers_then : {a b c : DeviceState} → Remembers a b → Remembers b c → Remembers a c
@@ -60,6 +64,12 @@ remembers_then {a} {b} {c} p q = record {
       ap c.past (sym same) ∙ q.last (omega (arith, later, same)) ∙ p.still same)
       (cases_lt a.moment b.moment);
   still = λ same. q.still (omega (arith, same, p.later, q.later)) ∙ p.still (omega (arith, same, p.later, q.later));
+  steps = omega (arith, p.steps, q.steps);
+  steps_past = λ m before. q.steps_past m (omega (arith, before, p.later)) ∙ p.steps_past m before;
+  steps_since = λ m from before. ⊎_elim
+      (λ (less : m < b.moment). subst (λ n. Rose a.steps n) (sym (q.steps_past m less)) (p.steps_since m from less))
+      (λ (most : b.moment ≤ m). omega (arith, p.steps, q.steps_since m most before))
+      (cases_lt m b.moment);
 }
 
 pub remembered_self : (s : DeviceState) → HasRemembered s s

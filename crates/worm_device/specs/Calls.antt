@@ -27,12 +27,15 @@ abbrev pub instant_of : DeviceState → Instant
 instant_of s = record { image = s.image; sure = s.sure }
 
 -- What is told of the past stays told: what stood at each moment before old, and what stood at old once time has gone on.
--- While no time goes by, nothing changes.
+-- While no time goes by, nothing changes. And whatever ends a moment from old on has a later step than old.
 pub record Remembers (old new : DeviceState) : Type 0 where
   pub later : old.moment ≤ new.moment
   pub past : (m : ℕ) → m < old.moment → new.past m ≡ old.past m
   pub last : old.moment < new.moment → new.past old.moment ≡ instant_of old
   pub still : new.moment ≡ old.moment → instant_of new ≡ instant_of old
+  pub steps : old.steps ≤ new.steps
+  pub steps_past : (m : ℕ) → m < old.moment → new.steps_at m ≡ old.steps_at m
+  pub steps_since : (m : ℕ) → old.moment ≤ m → m < new.moment → Rose old.steps (new.steps_at m)
 
 -- the same as a name that search does not open
 unfoldable pub HasRemembered : DeviceState → DeviceState → Type 0
@@ -86,11 +89,12 @@ pub record Writes (at : ℕ) (value : List ℕ) (old new : DeviceState) (result 
   pub cause : HasCause old new result
   pub count : new.reads ≡ old.reads
 
--- A sync that answers has made sure all that stood at its entry.
+-- A sync that answers has made sure all that stood at its entry. It is a step, also where it had nothing to do.
 pub record Syncs (old new : DeviceState) (result : Result Unit Failed) : Type 0 where
   pub called : Called old new
   pub leaves : LeavesAll old new
   pub only : IsStill old.foreign_writes new.foreign_writes → IsUnchanged old.image new.image
   pub answer : IsTrue old.tells → MatchResult result (λ _. Extends old.image new.sure) (λ _. ⊤)
+  pub step : IsTrue old.tells → MatchResult result (λ _. Rose old.steps new.steps) (λ _. ⊤)
   pub cause : HasCause old new result
   pub count : new.reads ≡ old.reads

@@ -10,7 +10,7 @@ pub record Instant : Type 0 where
   pub image : Image
   pub sure : Image
 
--- The state of a device. Where it does not tell its image, what stands here as image, sure image and past
+-- The state of a device. Where it does not tell its image, what stands here as image, sure image, past and steps
 -- says nothing of the device, and clauses on content ask for tells.
 pub record DeviceState : Type 0 where
   -- how many cells it has
@@ -34,6 +34,10 @@ pub record DeviceState : Type 0 where
   pub moment : ℕ
   -- what stood at each moment before the present one
   pub past : ℕ → Instant
+  -- how many steps it counts: writes and syncs, or what changed it
+  pub steps : ℕ
+  -- of each moment before the present one, which step ended it, or came behind what ended it
+  pub steps_at : ℕ → ℕ
 
 -- A crash now, or at some moment since that one, could have left this image: it has what was sure then,
 -- and nothing that did not stand then.

@@ -15,4 +15,6 @@ no_device = record {
   begun = [];
   moment = 0;
   past = λ m. record { image = no_cells; sure = no_cells };
+  steps = 0;
+  steps_at = λ m. 0;
 }
