@@ -4,7 +4,7 @@ use Rattle.std.proofs.lemmas.Bool.Decides.{eqb_tells}
 use Rattle.cell_types.specs.Image.{Extends, ChangesOnly}
 use Rattle.worm_device.specs.State.{DeviceState, Instant}
 use Rattle.worm_device.specs.Calls.{Called, Writes, Syncs}
-use Rattle.worm_device.specs.Counts.{next_count}
+use Rattle.worm_device.specs.Counts.{Rose, next_count}
 use Rattle.worm_device.specs.declared.device.Failed.{Failed}
 use Rattle.worm_device.specs.declared.device.Written.TheVariants.{Done, Taken}
 use Rattle.worm_device.proofs.Images.{extends_self}
@@ -14,14 +14,14 @@ use Rattle.worm_memory.specs.declared.change.Change.TheVariants.{Wrote, Foreign,
 use Rattle.worm_memory.specs.Device.{ForeignWrites}
 use Rattle.worm_memory.proofs.Worlds.{Adds}
 use Rattle.worm_memory.specs.Worlds.{blank, world, IsAllSure}
-use Rattle.worm_memory.specs.Memory.{Memory, device_of, with_change, with_foreign, with_fault, with_hand}
+use Rattle.worm_memory.specs.Memory.{IsBeforeStep, Memory, at_step, call_of, change_step, device_of, with_change, with_foreign, with_fault, with_hand}
 use Rattle.worm_memory.proofs.Worlds.{after_append, image_is, written_here, written_elsewhere}
 use Rattle.worm_memory.proofs.Crashes.{left_still, elapses_counted, elapses_changed, image_after, remembers_changed, remembers_counted, sure_after}
 
 -- what every call keeps, where only counts rise
-pub called_counted : (m : Memory) (faults reads : ℕ) → m.faults ≤ faults → m.reads ≤ reads
-    → Called (device_of m) (device_of (record m { faults = faults; reads = reads }))
-called_counted m faults reads more_faults more_reads = record {
+pub called_counted : (m : Memory) (from to faults reads : ℕ) → from ≤ to → m.faults ≤ faults → m.reads ≤ reads
+    → Called (at_step from (device_of m)) (at_step to (device_of (record m { faults = faults; reads = reads })))
+called_counted m from to faults reads more_steps more_faults more_reads = record {
   cells = refl;
   tells = refl;
   begun = refl;
@@ -30,14 +30,15 @@ called_counted m faults reads more_faults more_reads = record {
   faults = more_faults;
   foreign_writes = omega arith;
   reads = more_reads;
-  crashes = elapsed_since (elapses_counted m faults reads m.foreign_writes);
-  remembers = remembered_since (remembers_counted m faults reads m.foreign_writes);
+  crashes = elapsed_since (elapses_counted m from to faults reads m.foreign_writes);
+  remembers = remembered_since (remembers_counted m from to faults reads m.foreign_writes more_steps);
 }
 
 -- and where something changes
-called_changed : (m : Memory) (change : Change) → Adds change
-    → Called (device_of m) (device_of (with_change m change))
-called_changed m change adds = record {
+called_changed : (m : Memory) (from to : ℕ) (change : Change) → Adds change → length m.made_in ≡ length m.changes
+    → from ≤ to → Rose from (change_step change (call_of m))
+    → Called (at_step from (device_of m)) (at_step to (device_of (with_change m change)))
+called_changed m from to change adds one_each less rose = record {
   cells = refl;
   tells = refl;
   begun = refl;
@@ -46,8 +47,8 @@ called_changed m change adds = record {
   faults = omega arith;
   foreign_writes = omega arith;
   reads = omega arith;
-  crashes = elapsed_since (elapses_changed m change adds);
-  remembers = remembered_since (remembers_changed m change);
+  crashes = elapsed_since (elapses_changed m from to change adds);
+  remembers = remembered_since (remembers_changed m from to change one_each less rose);
 }
 
 -- what stands in the cells after a blank one is written
@@ -67,10 +68,11 @@ changes_one m at value free = λ cell.
     (eqb_tells cell at)
 
 -- a blank cell is written
-pub writes_done : (m : Memory) (at : ℕ) (value : List ℕ) → (world m.changes).image at ≡ None
-    → Writes at value (device_of m) (device_of (with_change m (Wrote at value))) (Ok Done)
-writes_done m at value free = record {
-  called = called_changed m (Wrote at value) tt;
+pub writes_done : (m : Memory) (before at : ℕ) (value : List ℕ) → length m.made_in ≡ length m.changes
+    → IsBeforeStep before m → (world m.changes).image at ≡ None
+    → Writes at value (at_step before (device_of m)) (device_of (with_change m (Wrote at value))) (Ok Done)
+writes_done m before at value one_each step free = record {
+  called = called_changed m before m.steps (Wrote at value) tt one_each step.below step.counted;
   leaves = leaves_all _ _ (λ image between. inl (record {
     above = subst (λ (now : Instant). Extends now.sure image)
         (sym (after_append blank m.changes (Wrote at value))) between.above;
@@ -83,10 +85,11 @@ writes_done m at value free = record {
 }
 
 -- a written cell stays
-pub writes_taken : (m : Memory) (at : ℕ) (value found : List ℕ) → (world m.changes).image at ≡ Some found
-    → Writes at value (device_of m) (device_of m) (Ok (Taken found))
-writes_taken m at value found stands = record {
-  called = called_counted m m.faults m.reads (omega arith) (omega arith);
+pub writes_taken : (m : Memory) (before at : ℕ) (value found : List ℕ) → IsBeforeStep before m
+    → (world m.changes).image at ≡ Some found
+    → Writes at value (at_step before (device_of m)) (device_of m) (Ok (Taken found))
+writes_taken m before at value found step stands = record {
+  called = called_counted m before m.steps m.faults m.reads step.below (omega arith) (omega arith);
   leaves = leaves_all _ _ (λ image between. inl between);
   only = λ still cell. inl refl;
   answer = λ tells. (stands, λ still. stands);
@@ -95,10 +98,10 @@ writes_taken m at value found stands = record {
 }
 
 -- a write that fails changes nothing
-pub writes_failed : (m : Memory) (at : ℕ) (value : List ℕ) (failed : Failed) → m.faults < 2 ^ 64
-    → Writes at value (device_of m) (device_of (with_fault m)) (Err failed)
-writes_failed m at value failed fits = record {
-  called = called_counted m (next_count m.faults) m.reads (omega arith) (omega arith);
+pub writes_failed : (m : Memory) (before at : ℕ) (value : List ℕ) (failed : Failed) → IsBeforeStep before m
+    → m.faults < 2 ^ 64 → Writes at value (at_step before (device_of m)) (device_of (with_fault m)) (Err failed)
+writes_failed m before at value failed step fits = record {
+  called = called_counted m before m.steps (next_count m.faults) m.reads step.below (omega arith) (omega arith);
   leaves = leaves_all _ _ (λ image between. inl between);
   only = λ still cell. inl refl;
   answer = λ tells. tt;
@@ -107,9 +110,10 @@ writes_failed m at value failed fits = record {
 }
 
 -- a sync makes sure what stands
-pub syncs_done : (m : Memory) → Syncs (device_of m) (device_of (with_change m Synced)) (Ok tt)
-syncs_done m = record {
-  called = called_changed m Synced tt;
+pub syncs_done : (m : Memory) (before : ℕ) → length m.made_in ≡ length m.changes → IsBeforeStep before m
+    → Syncs (at_step before (device_of m)) (device_of (with_change m Synced)) (Ok tt)
+syncs_done m before one_each counted = record {
+  called = called_changed m before m.steps Synced tt one_each counted.below counted.counted;
   leaves = leaves_all _ _ (λ image between. left_still m Synced (length m.changes) image (omega arith)
       (inl (record {
         above = between.above;
@@ -122,51 +126,61 @@ syncs_done m = record {
   answer = λ tells.
       subst (λ (now : Instant). Extends (world m.changes).image now.sure) (sym (after_append blank m.changes Synced))
       (extends_self (world m.changes).image);
+  step = λ tells. counted.counted;
   cause = refl;
   count = refl;
 }
 
 -- where all that stands is sure, there is nothing to do
-pub syncs_idle : (m : Memory) → IsAllSure (world m.changes) → Syncs (device_of m) (device_of m) (Ok tt)
-syncs_idle m all_sure = record {
-  called = called_counted m m.faults m.reads (omega arith) (omega arith);
+pub syncs_idle : (m : Memory) (before : ℕ) → IsBeforeStep before m → IsAllSure (world m.changes)
+    → Syncs (at_step before (device_of m)) (device_of m) (Ok tt)
+syncs_idle m before counted all_sure = record {
+  called = called_counted m before m.steps m.faults m.reads counted.below (omega arith) (omega arith);
   leaves = leaves_all _ _ (λ image between. inl between);
   only = λ still cell. refl;
   answer = λ tells. record { keeps = λ cell value h. sym (all_sure cell) ∙ h };
+  step = λ tells. counted.counted;
   cause = refl;
   count = refl;
 }
 
 -- a sync that fails changes nothing
-pub syncs_failed : (m : Memory) (failed : Failed) → m.faults < 2 ^ 64
-    → Syncs (device_of m) (device_of (with_fault m)) (Err failed)
-syncs_failed m failed fits = record {
-  called = called_counted m (next_count m.faults) m.reads (omega arith) (omega arith);
+pub syncs_failed : (m : Memory) (before : ℕ) (failed : Failed) → IsBeforeStep before m → m.faults < 2 ^ 64
+    → Syncs (at_step before (device_of m)) (device_of (with_fault m)) (Err failed)
+syncs_failed m before failed counted fits = record {
+  called = called_counted m before m.steps (next_count m.faults) m.reads counted.below (omega arith) (omega arith);
   leaves = leaves_all _ _ (λ image between. inl between);
   only = λ still cell. refl;
   answer = λ tells. tt;
+  step = λ tells. tt;
   cause = omega arith;
   count = refl;
 }
 
 -- somebody else writes a blank cell: first the record grows, and then the count
+pub called_foreign : (m : Memory) (from at : ℕ) (value : List ℕ) → m.foreign_writes < 2 ^ 64
+    → length m.made_in ≡ length m.changes → from ≤ m.steps
+    → Called (at_step from (device_of m)) (at_step from (device_of (with_foreign m at value)))
+called_foreign m from at value fits one_each less =
+    called_then (called_changed m from from (Foreign at value) tt one_each (omega arith) (omega (arith, less))) (record {
+      cells = refl;
+      tells = refl;
+      begun = refl;
+      image = extends_self (world (m.changes ++ Foreign at value ∷ [])).image;
+      sure = extends_self (world (m.changes ++ Foreign at value ∷ [])).sure;
+      faults = omega arith;
+      foreign_writes = omega arith;
+      reads = omega arith;
+      crashes = elapsed_since (elapses_counted (with_change m (Foreign at value)) from from m.faults m.reads
+          (next_count m.foreign_writes));
+      remembers = remembered_since (remembers_counted (with_change m (Foreign at value)) from from m.faults m.reads
+          (next_count m.foreign_writes) (omega arith));
+    })
+
 pub foreign_done : (m : Memory) (at : ℕ) (value : List ℕ) → m.foreign_writes < 2 ^ 64
-    → ForeignWrites (device_of m) (device_of (with_foreign m at value))
-foreign_done m at value fits = record {
-  called = called_then (called_changed m (Foreign at value) tt) (record {
-    cells = refl;
-    tells = refl;
-    begun = refl;
-    image = extends_self (world (m.changes ++ Foreign at value ∷ [])).image;
-    sure = extends_self (world (m.changes ++ Foreign at value ∷ [])).sure;
-    faults = omega arith;
-    foreign_writes = omega arith;
-    reads = omega arith;
-    crashes = elapsed_since (elapses_counted (with_change m (Foreign at value)) m.faults m.reads
-        (next_count m.foreign_writes));
-    remembers = remembered_since (remembers_counted (with_change m (Foreign at value)) m.faults m.reads
-        (next_count m.foreign_writes));
-  });
+    → length m.made_in ≡ length m.changes → ForeignWrites (device_of m) (device_of (with_foreign m at value))
+foreign_done m at value fits one_each = record {
+  called = called_foreign m m.steps at value fits one_each (omega arith);
   leaves = leaves_all _ _ (λ image between. inl (record {
     above = subst (λ (now : Instant). Extends now.sure image)
         (sym (after_append blank m.changes (Foreign at value))) between.above;
@@ -185,8 +199,7 @@ foreign_taken m = record {
 
 pub foreign_failed : (m : Memory) → m.faults < 2 ^ 64 → ForeignWrites (device_of m) (device_of (with_fault m))
 foreign_failed m fits = record {
-  called = called_counted m (next_count m.faults) m.reads (omega arith)
-      (omega arith);
+  called = called_counted m m.steps m.steps (next_count m.faults) m.reads (omega arith) (omega arith) (omega arith);
   leaves = leaves_all _ _ (λ image between. inl between);
   quiet = λ still cell. refl;
 }

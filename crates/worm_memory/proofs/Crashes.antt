@@ -1,22 +1,25 @@
 -- Time that goes on at a device in memory: what a crash could have left, over a call.
-use Rattle.std.proofs.Common.{◌≡◌, ◌≤◌, ◌<◌, ◌+◌, ⊎_elim, inl, inr, ℕ, List, [], ◌∷◌, ◌++◌, length, take, refl, ap, sym, subst, ◌∙◌, arith}
+use Rattle.std.proofs.Common.{◌≡◌, ◌≤◌, ◌<◌, ◌+◌, ⊎_elim, inl, inr, ℕ, zero, suc, List, [], ◌∷◌, ◌++◌, length, take, refl, ap, sym, subst, ◌∙◌, arith}
 use Rattle.std.proofs.Math.Seq.{take-length}
 use Rattle.std.proofs.lemmas.Bool.{cases_lt}
 use Rattle.std.proofs.lemmas.List.{take-append-le, length-append}
 use Rattle.cell_types.specs.Image.{Image, Extends, Between}
 use Rattle.worm_device.specs.State.{Instant, LeftSince}
 use Rattle.worm_device.specs.Calls.{Elapses, Remembers}
+use Rattle.worm_device.specs.Counts.{Rose}
 use Rattle.worm_device.proofs.Images.{extends_self, between_wider}
 use Rattle.worm_memory.specs.declared.change.Change.{Change}
+use Rattle.worm_memory.specs.declared.mark.CallNumbers.{CallNumbers}
 use Rattle.worm_memory.specs.Worlds.{blank, world}
-use Rattle.worm_memory.specs.Memory.{Memory, device_of, with_change}
+use Rattle.worm_memory.specs.Memory.{Memory, at_step, call_of, change_step, change_steps, device_of, with_change}
 use Rattle.worm_memory.specs.Proper.{sure_stands, blank_stands}
 use Rattle.worm_memory.proofs.Worlds.{after_append, Adds, image_grows, sure_grows}
 
 -- counts rise, and the record stays: what a crash could have left stays too
-pub elapses_counted : (m : Memory) (faults reads foreign_writes : ℕ)
-    → Elapses (device_of m) (device_of (record m { faults = faults; reads = reads; foreign_writes = foreign_writes }))
-elapses_counted m faults reads foreign_writes = record {
+pub elapses_counted : (m : Memory) (from to faults reads foreign_writes : ℕ)
+    → Elapses (at_step from (device_of m))
+    (at_step to (device_of (record m { faults = faults; reads = reads; foreign_writes = foreign_writes })))
+elapses_counted m from to faults reads foreign_writes = record {
   later = omega arith;
   image = extends_self (world m.changes).image;
   sure = extends_self (world m.changes).sure;
@@ -88,9 +91,9 @@ left_before m change since image moment le within left =
     (cases_lt moment (length m.changes))
 
 -- one more change
-pub elapses_changed : (m : Memory) (change : Change) → Adds change
-    → Elapses (device_of m) (device_of (with_change m change))
-elapses_changed m change adds =
+pub elapses_changed : (m : Memory) (from to : ℕ) (change : Change) → Adds change
+    → Elapses (at_step from (device_of m)) (at_step to (device_of (with_change m change)))
+elapses_changed m from to change adds =
     let longer : length (m.changes ++ change ∷ []) ≡ length m.changes + 1 = one_longer m.changes change in
     record {
       later = omega arith;
@@ -105,21 +108,54 @@ elapses_changed m change adds =
     }
 
 -- what is told of the past stays told
-pub remembers_counted : (m : Memory) (faults reads foreign_writes : ℕ)
-    → Remembers (device_of m) (device_of (record m { faults = faults; reads = reads; foreign_writes = foreign_writes }))
-remembers_counted m faults reads foreign_writes = record {
+pub remembers_counted : (m : Memory) (from to faults reads foreign_writes : ℕ) → from ≤ to
+    → Remembers (at_step from (device_of m))
+    (at_step to (device_of (record m { faults = faults; reads = reads; foreign_writes = foreign_writes })))
+remembers_counted m from to faults reads foreign_writes less = record {
   later = omega arith;
   past = λ moment before. refl;
   last = λ later. absurd (omega (arith, later));
   still = λ same. refl;
+  steps = less;
+  steps_past = λ moment before. refl;
+  steps_since = λ moment since before. absurd (omega (arith, since, before));
 }
 
-pub remembers_changed : (m : Memory) (change : Change) → Remembers (device_of m) (device_of (with_change m change))
-remembers_changed m change =
+-- which step made a change is told of each by its own numbers
+steps_stay : (changes : List Change) (made_in : List CallNumbers) (change : Change) (call : CallNumbers) (place : ℕ)
+    → length made_in ≡ length changes → place < length changes
+    → change_steps (changes ++ change ∷ []) (made_in ++ call ∷ []) place ≡ change_steps changes made_in place
+steps_stay [] made_in change call place same before = absurd (omega (arith, before))
+steps_stay (c ∷ changes) [] change call place same before = absurd (omega (arith, same))
+steps_stay (c ∷ changes) (n ∷ made_in) change call zero same before = refl
+steps_stay (c ∷ changes) (n ∷ made_in) change call (suc place) same before =
+    steps_stay changes made_in change call place (omega (arith, same)) (omega (arith, before))
+
+steps_last : (changes : List Change) (made_in : List CallNumbers) (change : Change) (call : CallNumbers) (place : ℕ)
+    → length made_in ≡ length changes → place ≡ length changes
+    → change_steps (changes ++ change ∷ []) (made_in ++ call ∷ []) place ≡ change_step change call
+steps_last [] [] change call zero same last = refl
+steps_last [] [] change call (suc place) same last = absurd (omega (arith, last))
+steps_last [] (n ∷ made_in) change call place same last = absurd (omega (arith, same))
+steps_last (c ∷ changes) [] change call place same last = absurd (omega (arith, same))
+steps_last (c ∷ changes) (n ∷ made_in) change call zero same last = absurd (omega (arith, last))
+steps_last (c ∷ changes) (n ∷ made_in) change call (suc place) same last =
+    steps_last changes made_in change call place (omega (arith, same)) (omega (arith, last))
+
+pub remembers_changed : (m : Memory) (from to : ℕ) (change : Change) → length m.made_in ≡ length m.changes
+    → from ≤ to → Rose from (change_step change (call_of m))
+    → Remembers (at_step from (device_of m)) (at_step to (device_of (with_change m change)))
+remembers_changed m from to change one_each less rose =
     let longer : length (m.changes ++ change ∷ []) ≡ length m.changes + 1 = one_longer m.changes change in
     record {
       later = omega arith;
       past = λ moment before. past_stays m.changes change moment (omega (arith, before));
       last = λ later. past_now m.changes change (length m.changes) refl;
       still = λ same. absurd (omega (arith, longer, same));
+      steps = less;
+      steps_past = λ moment before.
+          steps_stay m.changes m.made_in change (call_of m) moment one_each before;
+      steps_since = λ moment since before. subst (λ n. Rose from n)
+          (sym (steps_last m.changes m.made_in change (call_of m) moment one_each (omega (arith, longer, since, before))))
+          rose;
     }

@@ -127,20 +127,23 @@ module _ (b : Bool) (planned : List Timed) (m : Memory) (s c : ℕ) (steps : m.s
 
 -- what stands stays while others write
 come_itself : (now : Outcome) → now.failed ≡ false → now.memory.faults < 2 ^ 64 → now.memory.foreign_writes < 2 ^ 64
-    → HasCome now.memory now
-come_itself now ongoing faults writes = record {
+    → length now.memory.made_in ≡ length now.memory.changes → HasCome now.memory.steps now.memory now
+come_itself now ongoing faults writes one_each = record {
   comes = subst (λ f. Comes (device_of now.memory) (device_of now.memory) f) (sym ongoing)
       (comes_self (device_of now.memory));
   cells = refl;
+  counted = refl;
+  before = omega arith;
+  one_each = one_each;
   faults = faults;
   foreign_writes = writes;
 }
 
 grows_to : (b : Bool) (rest : List Timed) (now : Outcome) → now.failed ≡ false → now.memory.faults < 2 ^ 64
-    → now.memory.foreign_writes < 2 ^ 64
+    → now.memory.foreign_writes < 2 ^ 64 → length now.memory.made_in ≡ length now.memory.changes
     → Extends (world now.memory.changes).image (world (after_others b rest now).memory.changes).image
-grows_to b rest now ongoing faults writes =
-    (come_others b rest now.memory now (come_itself now ongoing faults writes)).comes.called.image
+grows_to b rest now ongoing faults writes one_each =
+    (come_others now.memory.steps b rest now.memory now (come_itself now ongoing faults writes one_each)).comes.called.image
 
 some_still : (low high : Option (List ℕ)) → ((value : List ℕ) → low ≡ Some value → high ≡ Some value)
     → is_some low ≡ true → is_some high ≡ true
@@ -177,7 +180,7 @@ timed_made b t m room =
 
 -- Where others' writes of a call found room, the cell of each that was planned for the call is written.
 all_made : (b : Bool) (s c : ℕ) (rest : List Timed) (m : Memory) (now : Outcome) → now.memory.steps ≡ s
-    → now.memory.calls ≡ c → HasCome m now → (after_others b rest now).failed ≡ false
+    → now.memory.calls ≡ c → HasCome s m now → (after_others b rest now).failed ≡ false
     → list_all (stands_if_named b s c (world (after_others b rest now).memory.changes).image) rest ≡ true
 all_made b s c [] m now steps calls come ongoing = refl
 all_made b s c (t ∷ rest) m now steps calls come ongoing =
@@ -187,9 +190,9 @@ all_made b s c (t ∷ rest) m now steps calls come ongoing =
     let goes : after_others b (t ∷ rest) now ≡ last = cond-false now.failed now last so in
     let still : last.failed ≡ false = ap (λ (o : Outcome). o.failed) (sym goes) ∙ ongoing in
     let first : one.failed ≡ false = ongoing_before b rest one still in
-    let next : HasCome m one = come_timed b t m now so come in
+    let next : HasCome s m one = come_timed s b t m now so come in
     let same = timed_numbers b t now.memory now.room in
-    let grows = grows_to b rest one first next.faults next.foreign_writes in
+    let grows = grows_to b rest one first next.faults next.foreign_writes next.one_each in
     subst (λ (o : Outcome). list_all (stands_if_named b s c (world o.memory.changes).image) (t ∷ rest) ≡ true)
     (sym goes)
     (and_from (stands_if_named b s c (world last.memory.changes).image t)
@@ -242,9 +245,9 @@ plan_adds false o x is = is
 pub arrived_keeps : (b : Bool) (m : Memory) (room : ℕ) (now : Outcome) → now ≡ arrived b m room
     → (others_done b m room).failed ≡ false
     → m.steps ≤ m.calls → m.steps < 2 ^ 64 → m.calls < 2 ^ 64 → m.faults < 2 ^ 64 → m.foreign_writes < 2 ^ 64
-    → last_faults m.marks ≤ m.faults → last_changes m.marks ≤ length m.changes
+    → last_faults m.marks ≤ m.faults → last_changes m.marks ≤ length m.changes → length m.made_in ≡ length m.changes
     → KeepsPlan m → KeepsPlan now.memory
-arrived_keeps b m room now is ongoing ordered fs fc ff fw later longer keeps =
+arrived_keeps b m room now is ongoing ordered fs fc ff fw later longer one_each keeps =
     let s = m.steps in
     let c = m.calls in
     let planned = m.plan.foreign in
@@ -269,9 +272,9 @@ arrived_keeps b m room now is ongoing ordered fs fc ff fw later longer keeps =
     all_both (stands_if_reached s c (world m.changes).image)
     (stands_if_named b (next_step b s) (next_count c) (world o.memory.changes).image)
     (stands_if_reached (next_step b s) (next_count c) (world o.memory.changes).image)
-    (come_now b s c (world m.changes).image (world o.memory.changes).image (grows_to b planned start refl ff fw))
+    (come_now b s c (world m.changes).image (world o.memory.changes).image (grows_to b planned start refl ff fw one_each))
     planned keeps.stands
-    (all_made b (next_step b s) (next_count c) planned begun start refl refl (come_itself start refl ff fw) ongoing) in
+    (all_made b (next_step b s) (next_count c) planned begun start refl refl (come_itself start refl ff fw one_each) ongoing) in
     let wrote : has.writes ≡ o.memory.foreign_writes = ap (λ (x : Memory). x.foreign_writes) (sym has.is) in
     let last : now.memory ≡ record begun {
       changes = has.changes;

@@ -1,6 +1,6 @@
 -- What a device in memory is for contracts, and what its calls do: its record of changes, from which each
 -- state and each image that a crash could have left follow, its counts, and the present command's numbers and plan.
-use Rattle.std.specs.Prelude.{◌≡◌, ◌≤◌, ◌<◌, ◌+◌, ◌-◌, ◌*◌, ◌^◌, ◌==◌, ◌&&◌, nat_le, ℕ, Bool, false, true, List, [], ◌∷◌, ◌++◌, length, take, drop, Some}
+use Rattle.std.specs.Prelude.{zero, suc, ◌≡◌, ◌≤◌, ◌<◌, ◌+◌, ◌-◌, ◌*◌, ◌^◌, ◌==◌, ◌&&◌, nat_le, ℕ, Bool, false, true, List, [], ◌∷◌, ◌++◌, length, take, drop, Some}
 use Rattle.std.specs.List.{list_all}
 use Rattle.worm_device.specs.Counts.{Rose, next_count}
 use Rattle.worm_device.specs.Calls.{Remembers}
@@ -42,7 +42,22 @@ pub record Memory : Type 0 where
   -- before its first call, and nobody called `foreign` or `crash` since
   pub by_plan : Bool
 
--- As a device. The moment is the number of changes so far.
+-- the step that made a change, or comes behind it: what a command changes itself it changes in a step
+abbrev pub change_step : Change → CallNumbers → ℕ
+change_step (Wrote at value) call = call.steps
+change_step (Foreign at value) call = next_count call.steps
+change_step Synced call = call.steps
+change_step (Lost at) call = next_count call.steps
+change_step Crashed call = next_count call.steps
+
+-- the same of the change at this place
+abbrev pub change_steps : List Change → List CallNumbers → ℕ → ℕ
+change_steps [] made_in place = 0
+change_steps (change ∷ changes) [] place = 0
+change_steps (change ∷ changes) (call ∷ made_in) zero = change_step change call
+change_steps (change ∷ changes) (call ∷ made_in) (suc place) = change_steps changes made_in place
+
+-- As a device. The moment is the number of changes so far, and the steps are those of the present command.
 abbrev pub device_of : Memory → DeviceState
 device_of m = record {
   cells = m.cells;
@@ -55,7 +70,18 @@ device_of m = record {
   begun = begun_rows m.marks m.plan m.by_plan;
   moment = length m.changes;
   past = λ moment. world (take moment m.changes);
+  steps = m.steps;
+  steps_at = change_steps m.changes m.made_in;
 }
+
+-- a device as it was before its last steps were counted
+abbrev pub at_step : ℕ → DeviceState → DeviceState
+at_step before s = record s { steps = before }
+
+-- a step has come, before which there were so many
+pub record IsBeforeStep (before : ℕ) (m : Memory) : Type 0 where
+  pub counted : Rose before m.steps
+  pub below : before ≤ m.steps
 
 -- the numbers of the call that has come
 abbrev pub call_of : Memory → CallNumbers

@@ -18,6 +18,8 @@ impl MemoryDevice {
         ensures cells { (memory_of self.new).cells ≡ (memory_of self.old).cells }
         ensures faults { (memory_of self.old).faults < 2 ^ 64 }
         ensures foreign_writes { (memory_of self.old).foreign_writes < 2 ^ 64 }
+        ensures steps { (memory_of self.old).steps < 2 ^ 64 }
+        ensures one_each { length (memory_of self.old).made_in ≡ length (memory_of self.old).changes }
     {
         self.read_counts();
         // Once the call is counted its moment is reached, and what was planned for it is not done yet: the command goes

@@ -1,7 +1,7 @@
 //! A device in memory as a device.
-ghost use Rattle.std.specs.Prelude.{◌≡◌, ◌<◌, true, false, is_err, IsOk};
+ghost use Rattle.std.specs.Prelude.{◌≡◌, ◌<◌, ℕ, true, false, is_err, IsOk};
 ghost use Rattle.worm_device.specs.Calls.{Reads, Writes, Syncs};
-ghost use Rattle.worm_memory.specs.Memory.{with_call, with_read, IsStepOpen};
+ghost use Rattle.worm_memory.specs.Memory.{at_step, with_call, with_read, IsBeforeStep, IsStepOpen};
 ghost use Rattle.worm_memory.specs.Plans.{no_plan};
 ghost use Rattle.worm_memory.specs.Device.{memory_of, outcome, room_of, state_of};
 ghost use Rattle.worm_memory.specs.Outcomes.{goes_on, arrived, after_write, after_sync};
@@ -66,7 +66,8 @@ impl MemoryDevice {
     fn finish_write(&mut self, at: u32, value: Cell) -> Result<Written, Failed>
         requires inside { at < (memory_of self.old).cells }
         requires in_step { self.old.by_plan ≡ true → IsStepOpen (memory_of self.old) }
-        ensures writes { Writes at value (state_of self.old) (state_of self.new) result }
+        ensures writes { (before : ℕ) → IsBeforeStep before (memory_of self.old)
+            → Writes at value (at_step before (state_of self.old)) (state_of self.new) result }
         ensures becomes { outcome self.new (is_err result)
             ≡ after_write at value (goes_on (memory_of self.old) (room_of self.old)) }
     {
@@ -83,7 +84,8 @@ impl MemoryDevice {
     /// Makes all sure that stands, once the call has come.
     fn finish_sync(&mut self) -> Result<(), Failed>
         requires in_step { self.old.by_plan ≡ true → IsStepOpen (memory_of self.old) }
-        ensures syncs { Syncs (state_of self.old) (state_of self.new) result }
+        ensures syncs { (before : ℕ) → IsBeforeStep before (memory_of self.old)
+            → Syncs (at_step before (state_of self.old)) (state_of self.new) result }
         ensures becomes { outcome self.new (is_err result)
             ≡ after_sync (goes_on (memory_of self.old) (room_of self.old)) }
     {

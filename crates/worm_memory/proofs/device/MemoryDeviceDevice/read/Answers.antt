@@ -14,7 +14,12 @@ returns-in_err-arrive-clause-reads c =
     c.count_read.ensures.fits c.from_residual.ensures.0
     (subst (λ (m : Memory). Comes (device_of m) (device_of (memory_of new)) true) c.count_read.ensures.counted
     (comes_as false (memory_of counted) (room_of counted) (outcome new true) c.in_err-arrive.ensures.arrives
-    c.arrive.ensures.faults c.arrive.ensures.foreign_writes))
+    (record {
+      faults = c.arrive.ensures.faults;
+      foreign_writes = c.arrive.ensures.foreign_writes;
+      steps = c.arrive.ensures.steps;
+      one_each = c.arrive.ensures.one_each;
+    })))
 
 pub returns-clause-reads : goal.returns-clause-reads
 returns-clause-reads c =
@@ -25,4 +30,9 @@ returns-clause-reads c =
     (reads_come old (device_of (memory_of new)) c.args.at c.count_read.ensures.fits
     (subst (λ (m : Memory). Comes (device_of m) (device_of (memory_of new)) false) c.count_read.ensures.counted
     (comes_as false (memory_of counted) (room_of counted) (outcome new false) c.in_ok-arrive.ensures.arrives
-    c.arrive.ensures.faults c.arrive.ensures.foreign_writes)))
+    (record {
+      faults = c.arrive.ensures.faults;
+      foreign_writes = c.arrive.ensures.foreign_writes;
+      steps = c.arrive.ensures.steps;
+      one_each = c.arrive.ensures.one_each;
+    }))))

@@ -1,7 +1,7 @@
 -- A write from where it came on, and one that came to fail.
 use Rattle.std.proofs.Common.{false, true}
 use Rattle.worm_memory.specs.Device.{memory_of, outcome, room_of}
-use Rattle.worm_memory.proofs.Arriving.{comes_as, writes_since, writes_refused}
+use Rattle.worm_memory.proofs.Arriving.{comes_as, comes_before, is_before_step, writes_since, writes_refused}
 use Rattle.worm_memory.proofs.device.MemoryDeviceDevice.write.Goals as goal
 
 pub returns-in_err-arrive-clause-writes : goal.returns-in_err-arrive-clause-writes
@@ -9,12 +9,24 @@ returns-in_err-arrive-clause-writes c =
     let old = c.args.self.now in
     writes_refused c.args.at c.args.value c.from_residual.result c.from_residual.ensures.0
     (comes_as true (memory_of old) (room_of old) (outcome c.arrive.new.self true) c.in_err-arrive.ensures.arrives
-    c.arrive.ensures.faults c.arrive.ensures.foreign_writes)
+    (record {
+      faults = c.arrive.ensures.faults;
+      foreign_writes = c.arrive.ensures.foreign_writes;
+      steps = c.arrive.ensures.steps;
+      one_each = c.arrive.ensures.one_each;
+    }))
 
 pub returns-clause-writes : goal.returns-clause-writes
 returns-clause-writes c =
     let old = c.args.self.now in
+    let now = outcome c.arrive.new.self false in
+    let ready = record {
+      faults = c.arrive.ensures.faults;
+      foreign_writes = c.arrive.ensures.foreign_writes;
+      steps = c.arrive.ensures.steps;
+      one_each = c.arrive.ensures.one_each;
+    } in
     writes_since c.args.at c.args.value c.finish_write.result
-    (comes_as true (memory_of old) (room_of old) (outcome c.arrive.new.self false) c.in_ok-arrive.ensures.arrives
-    c.arrive.ensures.faults c.arrive.ensures.foreign_writes)
-    c.finish_write.ensures.writes
+    (comes_before (memory_of old) (room_of old) now c.in_ok-arrive.ensures.arrives ready)
+    (c.finish_write.ensures.writes (memory_of old).steps
+    (is_before_step (memory_of old) (room_of old) now c.in_ok-arrive.ensures.arrives ready))
