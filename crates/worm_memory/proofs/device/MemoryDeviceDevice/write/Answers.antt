@@ -1,7 +1,7 @@
 -- A write from where it came on, and one that came to fail.
 use Rattle.std.proofs.Common.{false, true}
 use Rattle.worm_memory.specs.Device.{memory_of, outcome, room_of}
-use Rattle.worm_memory.proofs.Arriving.{comes_as, comes_before, is_before_step, writes_since, writes_refused}
+use Rattle.worm_memory.proofs.Arriving.{IsReadyToCome, comes_as, comes_before, is_before_step, writes_since, writes_refused}
 use Rattle.worm_memory.proofs.device.MemoryDeviceDevice.write.Goals as goal
 
 pub returns-in_err-arrive-clause-writes : goal.returns-in_err-arrive-clause-writes
@@ -20,7 +20,7 @@ pub returns-clause-writes : goal.returns-clause-writes
 returns-clause-writes c =
     let old = c.args.self.now in
     let now = outcome c.arrive.new.self false in
-    let ready = record {
+    let ready : IsReadyToCome (memory_of old) = record {
       faults = c.arrive.ensures.faults;
       foreign_writes = c.arrive.ensures.foreign_writes;
       steps = c.arrive.ensures.steps;

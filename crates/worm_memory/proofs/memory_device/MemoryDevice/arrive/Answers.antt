@@ -19,7 +19,7 @@ kept c is =
     (outcome c.come-come.new.self (is_err c.come-come.result)) c.come-come.ensures.arrives
     (c.come-come.ensures.roomy (old.backed is)) old.steps_fit
     c.read_counts.ensures.steps c.read_counts.ensures.calls c.read_counts.ensures.faults
-    c.read_counts.ensures.foreign_writes old.later (omega (arith, old.longer)) old.one_each
+    c.read_counts.ensures.foreign_writes old.later (omega (arith, old.longer)) (omega (arith, old.one_each))
     (record {
       run = keeps.run;
       none = keeps.none;

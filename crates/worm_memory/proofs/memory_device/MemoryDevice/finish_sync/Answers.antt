@@ -35,4 +35,4 @@ pub returns-clause-syncs : goal.returns-clause-syncs
 returns-clause-syncs c = λ before step.
     let old = memory_of c.args.self.now in
     subst (λ m. Syncs (at_step before (device_of old)) (device_of m) (Ok tt)) (sym c.record_sync.ensures.0)
-    (syncs_done old before c.args.self.now.one_each step)
+    (syncs_done old before (omega (arith, c.args.self.now.one_each)) step)

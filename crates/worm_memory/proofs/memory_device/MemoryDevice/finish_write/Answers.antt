@@ -22,7 +22,8 @@ returns-clause-writes c = λ before step.
     let old = memory_of c.args.self.now in
     let free : (world old.changes).image c.args.at ≡ None = search rules in
     subst (λ m. Writes c.args.at c.args.value (at_step before (device_of old)) (device_of m) (Ok Done))
-    (sym c.put.ensures.records.0) (writes_done old before c.args.at c.args.value c.args.self.now.one_each step free)
+    (sym c.put.ensures.records.0) (writes_done old before c.args.at c.args.value
+    (omega (arith, c.args.self.now.one_each)) step free)
 
 pub returns-in-Some-clause-writes : goal.returns-in-Some-clause-writes
 returns-in-Some-clause-writes c = λ before step.

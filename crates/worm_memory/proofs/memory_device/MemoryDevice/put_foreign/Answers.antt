@@ -26,7 +26,8 @@ pub returns-clause-called : goal.returns-clause-called
 returns-clause-called c =
     let old = memory_of c.args.self.now in
     subst (λ m. ForeignWrites (device_of old) (device_of m)) (sym c.put.ensures.records.0)
-    (foreign_done old c.args.at c.args.value c.put.ensures.fits c.args.self.now.one_each)
+    (foreign_done old c.args.at c.args.value c.put.ensures.fits
+    (omega (arith, c.args.self.now.one_each)))
 
 -- somebody else's write is a put
 pub put-requires-clause-is : goal.put-requires-clause-is
