@@ -15,7 +15,7 @@ use Rattle.worm_device.specs.Counts.{IsStill, Rose}
 use Rattle.worm_device.specs.State.{DeviceState, LeftSince}
 use Rattle.worm_device.specs.declared.device.Failed.{Failed}
 use Rattle.worm_device.proofs.Counting.{still_first, still_second}
-use Rattle.worm_device.proofs.Elapsing.{called_then, elapses_of}
+use Rattle.worm_device.proofs.Elapsing.{called_then, elapses_of, remembers_of}
 use Rattle.worm_device.proofs.Images.{extends_self, extends_then, unchanged_then}
 use Rattle.recovery_engine.specs.Ending.{HasJournal, IsFirstEnd, IsLastEnd, end_plan, end_phases, step_of}
 use Rattle.recovery_engine.specs.Settling.{Settles, SettleEnds, LooksBriefly, LooksBrieflyAgain, NamesTarget, EndsByPhases, IsEnding, settle_plan}
@@ -57,6 +57,7 @@ pub record Looked (old now : DeviceState) : Type 0 where
   pub called : Called old now
   pub quiet : IsStill old.foreign_writes now.foreign_writes → IsUnchanged old.image now.image
   pub synced : IsTrue old.tells → Extends old.image now.sure
+  pub stepped : IsTrue old.tells → Rose old.steps now.steps
   pub crashes : CrashesSpare old now
 
 spared_call : {old new : DeviceState} → Called old new → CrashesSpare old new
@@ -70,6 +71,7 @@ looked_sync old new sync = record {
   called = sync.called;
   quiet = sync.only;
   synced = sync.answer;
+  stepped = sync.step;
   crashes = spared_call
       sync.called;
 }
@@ -82,6 +84,7 @@ looked_more old mid new looked called quiet = record {
   quiet = λ still. unchanged_then (looked.quiet (still_first looked.called.foreign_writes called.foreign_writes still))
       (quiet (still_second looked.called.foreign_writes called.foreign_writes still));
   synced = λ tells. extends_then (looked.synced tells) called.sure;
+  stepped = λ tells. omega (arith, looked.stepped tells, (remembers_of called).steps);
   crashes = λ since image le left. ⊎_elim
       (λ (before : LeftSince mid since image). ⊎_elim inl
       (λ (s : IsSpared old mid image). inr (record { above = s.above; below = extends_then s.below called.image }))
@@ -131,14 +134,16 @@ none_settles image j put h = ⊎_elim
 -- settling ends after looks alone
 settled_spared : (old now : DeviceState) (result : Result Ready Refusal) → Called old now
     → (IsOk result → now.faults ≡ old.faults) → (IsOk result → Rose old.reads now.reads)
+    → (IsOk result → IsTrue old.tells → Rose old.steps now.steps)
     → (IsStill old.foreign_writes now.foreign_writes → IsUnchanged old.image now.image) → CrashesSpare old now
     → (IsOk result → IsTrue old.tells → Extends old.image now.sure) → IfOk result (λ r. r.step ≡ step_of 0 Unused)
     → (IsTrue old.tells → NamesTarget old now result) → SettleEnds old now result → LooksBriefly old now result
     → (IsTrue old.tells → LooksBrieflyAgain old now) → Settles old now result
-settled_spared old now result called unfailed read quiet crashes synced step targets ends reads again = record {
+settled_spared old now result called unfailed read stepped quiet crashes synced step targets ends reads again = record {
   called = called;
   unfailed = unfailed;
   read = read;
+  stepped = stepped;
   writes = λ tells. record {
     between = old.image;
     grows = extends_self old.image;
@@ -165,13 +170,13 @@ pub settled_looked : (old now : DeviceState) (result : Result Ready Refusal) →
     → SettleEnds old now result → LooksBriefly old now result → (IsTrue old.tells → LooksBrieflyAgain old now)
     → Settles old now result
 settled_looked old now result looked unfailed read step targets ends reads again = settled_spared old now result
-    looked.called unfailed read looked.quiet looked.crashes (λ okay tells. looked.synced tells) step targets ends reads
-    again
+    looked.called unfailed read (λ okay tells. looked.stepped tells) looked.quiet looked.crashes
+    (λ okay tells. looked.synced tells) step targets ends reads again
 
 -- the sync failed
 pub sync_failed : (s0 s1 : DeviceState) (f : Failed) → Syncs s0 s1 (Err f) → Settles s0 s1 (Err DeviceFault)
 sync_failed s0 s1 f sync = settled_spared s0 s1 (Err DeviceFault) sync.called (λ okay. absurd (false_true okay))
-    (λ okay. absurd (false_true okay)) sync.only (spared_call sync.called)
+    (λ okay. absurd (false_true okay)) (λ okay. absurd (false_true okay)) sync.only (spared_call sync.called)
     (λ okay tells. absurd (false_true okay)) tt (λ tells. tt) sync.cause tt
     (λ tells settled still. omega (arith, sync.count))
 
@@ -263,6 +268,7 @@ settled_ended n s0 s4 s5 state ended result looked unfailed read phases ending o
       called = called_then looked.called phases.puts.called;
       unfailed = λ ok. (okay ok).puts.unfailed refl ∙ unfailed;
       read = λ ok. omega (arith, read, phases.puts.called.reads);
+      stepped = λ ok tells. omega (arith, looked.stepped tells, (remembers_of phases.puts.called).steps);
       writes = λ tells. writes ended phases tells;
       ends = ends;
       targets = targets;

@@ -162,11 +162,12 @@ LooksBrieflyAgain old new =
     Settled old.cells old.image → IsStill old.foreign_writes new.foreign_writes → new.reads ≤ old.reads + 64
 
 -- What it means that a volume is settled, or that settling it was ended. Where it is settled cell 0 was read, and no call
--- of the device has failed: none is tried a second time.
+-- of the device has failed: none is tried a second time. Its sync is a step, also where nothing was left to make sure.
 pub record Settles (old new : DeviceState) (result : Result Ready Refusal) : Type 0 where
   pub called : Called old new
   pub unfailed : IsOk result → new.faults ≡ old.faults
   pub read : IsOk result → Rose old.reads new.reads
+  pub stepped : IsOk result → IsTrue old.tells → Rose old.steps new.steps
   pub writes : IsTrue old.tells → EndsByPhases old new result
   pub ends : SettleEnds old new result
   pub targets : IsTrue old.tells → NamesTarget old new result
