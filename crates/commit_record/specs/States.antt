@@ -1,8 +1,8 @@
 -- In which state a slot is, and what says that it is in none.
 use Rattle.std.specs.Prelude.{◌≡◌, ◌<◌, ◌≤◌, ◌+◌, ◌-◌, ◌⊎◌, min, ℕ, Some, None, Result, Ok, Err, IsTrue, ⊤}
 use Rattle.cell_types.specs.Image.{Image}
-use Rattle.cell_types.specs.Layout.{Layout, reserve_at, outcome_at, done_at, spare_at, pool_at}
-use Rattle.cell_types.specs.declared.geometry.TheConstants.{FOLDED_VERSION, MAX_CELLS, STAMPED_VERSION}
+use Rattle.cell_types.specs.Layout.{Layout, TakesStamps, reserve_at, outcome_at, done_at, spare_at, pool_at}
+use Rattle.cell_types.specs.declared.geometry.TheConstants.{FOLDED_VERSION, MAX_CELLS}
 use Rattle.cell_types.specs.declared.record_cell.TheConstants.{MIN_STORED_BYTES, MAX_STORED_BYTES}
 use Rattle.cell_types.specs.declared.record_cell.RecordCell.TheVariants as records
 use Rattle.cell_types.specs.declared.refusal.Evidence.{Evidence}
@@ -70,7 +70,7 @@ pub data IsNoState (g : Layout) (before after : Image) (n rule cell : ℕ) : Typ
   -- the outcome cell states a document that fits, documents are stamped, and the slot lacks its stamp
   ends_unstamped : (start length bytes journal : ℕ) → rule ≡ OUTCOME_CELL → cell ≡ outcome_at n
       → Reserves g after n start length → Holds after (outcome_at n) (records.Commit bytes journal)
-      → cells_for bytes + journal ≤ length → g.version ≡ STAMPED_VERSION → LacksStamp before after n
+      → cells_for bytes + journal ≤ length → TakesStamps g → LacksStamp before after n
       → IsNoState g before after n rule cell
   -- a done cell stands, and nothing is reserved
   done_unreserved : rule ≡ DONE_CELL → cell ≡ done_at n → before (reserve_at n) ≡ None → before (outcome_at n) ≡ None
