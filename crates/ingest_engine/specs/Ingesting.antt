@@ -95,8 +95,7 @@ pub record IsIngested (id : List ℕ) (stamp : Option ℕ) (body : List ℕ) (n 
 abbrev pub CheckStampEnds : Ready → Option ℕ → Result Unit Refusal → Type 0
 CheckStampEnds r stamp (Ok u) = IsStampFor r.volume.geometry stamp
 CheckStampEnds r stamp (Err StampNeeded) = TakesStamps r.volume.geometry × (stamp ≡ None)
-CheckStampEnds r stamp (Err StampUnused) =
-    TakesNoStamps r.volume.geometry × ((seconds : ℕ) × (stamp ≡ Some seconds))
+CheckStampEnds r stamp (Err StampUnused) = TakesNoStamps r.volume.geometry × ((seconds : ℕ) × (stamp ≡ Some seconds))
 CheckStampEnds r stamp (Err refusal) = ⊥
 
 -- The volume was settled, and does not take such a stamp, by this refusal.

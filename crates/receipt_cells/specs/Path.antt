@@ -28,8 +28,7 @@ IsUnlisted (faults.Tampered e) result = result ≡ Ok tt
 
 -- so many of a done slot's cells are log cells: four where documents are stamped, and else three
 abbrev pub AreLogCells : Layout → ℕ → Type 0
-AreLogCells g count =
-    (TakesStamps g × (count ≡ 4)) ⊎ ((TakesStamps g → ⊥) × (count ≡ 3))
+AreLogCells g count = (TakesStamps g × (count ≡ 4)) ⊎ ((TakesStamps g → ⊥) × (count ≡ 3))
 
 -- Where a document stood in slot n at entry, just the cells of the slot are listed.
 abbrev pub SlotListEnds : Layout → ℕ → ViewState → ViewState → List (ℕ × List ℕ) → List (ℕ × List ℕ)

@@ -1,4 +1,5 @@
 -- Settling, and then the time list.
+use Rattle.std.proofs.lemmas.Bool.{iff_false}
 use Rattle.cell_types.proofs.Passed.{handed}
 use Rattle.time_index.proofs.Searched.{settled_search, unsettled, without_stamps}
 use Rattle.time_index.proofs.span.search.Goals as goal
@@ -15,7 +16,7 @@ returns-in_err-ready g c =
 pub returns-then-not-is_stamped : goal.returns-then-not-is_stamped
 returns-then-not-is_stamped g c =
     without_stamps c.args.from c.args.to (g.D.Device.state c.args.device.now) (g.D.Device.state c.settle.new.device)
-    c.in_ok-ready.ready c.in_ok-ready.ensures (rw c.if-not-is_stamped.true at c.is_stamped.ensures.stamped.1)
+    c.in_ok-ready.ready c.in_ok-ready.ensures (iff_false c.is_stamped.ensures.stamped c.if-not-is_stamped.true)
 
 -- the time list was searched
 pub returns : goal.returns

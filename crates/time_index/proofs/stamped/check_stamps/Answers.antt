@@ -1,5 +1,6 @@
 -- The loan is not spoken of.
 use Rattle.std.proofs.Common.{rules}
+use Rattle.std.proofs.lemmas.Bool.{iff_false}
 use Rattle.cell_types.proofs.Passed.{handed}
 use Rattle.commit_record.specs.Opening.{refusal_of}
 use Rattle.time_index.proofs.AskingStamps.{no_volume, with_stamps, without_stamps}
@@ -18,7 +19,7 @@ returns-then-not-is_stamped g c =
     let asks = without_stamps (g.D.Device.state c.new.result.device.now) (g.D.Device.state c.open.new.view.device.now)
     c.new.result.device.ghost_name c.open.new.view.device.ghost_name (g.met.D.Device.proper c.open.new.view.device.now)
     c.open.ensures.viewed c.open.ensures.reads c.in_ok-volume.volume c.in_ok-volume.ensures.ends
-    (rw c.if-not-is_stamped.true at c.is_stamped.ensures.stamped.1) in
+    (iff_false c.is_stamped.ensures.stamped c.if-not-is_stamped.true) in
     search (rules, asks)
 
 pub returns : goal.returns
