@@ -5,7 +5,7 @@ use Rattle.std.proofs.lemmas.Bool.{cases_eq}
 use Rattle.std.proofs.lemmas.List.{drop-drop}
 use Rattle.std.proofs.lemmas.Option.{none-some}
 use Rattle.cell_types.specs.Image.{Image}
-use Rattle.cell_types.specs.Layout.{Layout, reserve_at}
+use Rattle.cell_types.specs.Layout.{Layout, TakesStamps, reserve_at}
 use Rattle.cell_types.specs.declared.geometry.TheConstants.{STAMPED_VERSION}
 use Rattle.cell_types.specs.declared.record_cell.RecordCell.TheVariants as records
 use Rattle.worm_device.specs.ReadBytes.{IsReadBetween, cell_bytes}
@@ -103,15 +103,15 @@ module _ (g : Layout) (n : ℕ) (bytes : List ℕ) (seconds : ℕ) (done : IsDon
         (written (cell_bytes bytes 3) 10 _ (omega arith) done.stamp.same);
   }
 
-  stamped : (g.version ≡ STAMPED_VERSION) ⊎ (g.version ≡ STAMPED_VERSION → ⊥) → IsStampedByRow g n done_cells
+  stamped : TakesStamps g ⊎ (TakesStamps g → ⊥) → IsStampedByRow g n done_cells
   stamped cases =
       ⊎_elim
-      (λ (is : g.version ≡ STAMPED_VERSION). record {
+      (λ (is : TakesStamps g). record {
         stamp = Some (Record (cell_bytes bytes 3) (records.Stamp seconds));
         spare = (is, done.stamp, refl);
         there = (seconds, refl);
       })
-      (λ (other : g.version ≡ STAMPED_VERSION → ⊥). record { stamp = None; spare = other; there = tt })
+      (λ (other : TakesStamps g → ⊥). record { stamp = None; spare = other; there = tt })
       cases
 
   pub done_state : n < g.slots → SlotOfRow g n done_cells (Ok (Done done.start done.length done.size done.journal))

@@ -1,8 +1,7 @@
 -- What the cells of a slot make, and why a cell among them is out of place.
 use Rattle.std.proofs.Common.{◌≡◌, ◌<◌, ◌≤◌, ◌+◌, inl, inr, ℕ, List, Option, Some, None, Result, Ok, Err, refl, sym, ◌∙◌, ap, subst}
 use Rattle.cell_types.specs.Image.{Image}
-use Rattle.cell_types.specs.Layout.{Layout, reserve_at, outcome_at, done_at, spare_at, pool_at}
-use Rattle.cell_types.specs.declared.geometry.TheConstants.{STAMPED_VERSION}
+use Rattle.cell_types.specs.Layout.{Layout, TakesStamps, reserve_at, outcome_at, done_at, spare_at, pool_at}
 use Rattle.cell_types.specs.declared.record_cell.RecordCell.{RecordCell}
 use Rattle.cell_types.specs.declared.record_cell.RecordCell.TheVariants as records
 use Rattle.cell_types.specs.declared.refusal.Evidence.{Evidence}
@@ -44,7 +43,7 @@ pub record IsLateDone (n : ℕ) (done : Found) (e : Evidence) : Type 0 where
 
 -- where a stamp was found in its cell, the slot has it
 stamp_there : (g : Layout) (n : ℕ) (stamp : Option Found) (before after : Image) → IsStampThere stamp
-    → SeenStamp g n stamp before after → g.version ≡ STAMPED_VERSION → IsStamped after n
+    → SeenStamp g n stamp before after → TakesStamps g → IsStamped after n
 stamp_there g n None before after there seen stamped = absurd (seen stamped)
 stamp_there g n (Some Blank) before after there seen stamped = absurd there
 stamp_there g n (Some (Stray cell)) before after there seen stamped = absurd there
@@ -55,7 +54,7 @@ stamp_there g n (Some (Record cell held)) before after there seen stamped = reco
 
 -- where none was found, the slot lacks it
 stamp_missing : (g : Layout) (n : ℕ) (stamp : Option Found) (before after : Image) → IsStampMissing stamp
-    → SeenStamp g n stamp before after → (g.version ≡ STAMPED_VERSION) × LacksStamp before after n
+    → SeenStamp g n stamp before after → TakesStamps g × LacksStamp before after n
 stamp_missing g n None before after missing seen = absurd missing
 stamp_missing g n (Some Blank) before after missing seen = (seen.0, inl seen.1)
 stamp_missing g n (Some (Stray cell)) before after missing seen =

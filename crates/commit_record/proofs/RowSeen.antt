@@ -2,8 +2,7 @@
 use Rattle.std.proofs.Common.{◌≡◌, ◌<◌, ◌≤◌, ◌+◌, arith, ℕ, List, length, Option, Some, subst}
 use Rattle.std.specs.Prelude.{IsTrue, slice_get}
 use Rattle.cell_types.specs.Image.{Image}
-use Rattle.cell_types.specs.Layout.{Layout, reserve_at, outcome_at, done_at, spare_at}
-use Rattle.cell_types.specs.declared.geometry.TheConstants.{STAMPED_VERSION}
+use Rattle.cell_types.specs.Layout.{Layout, TakesStamps, reserve_at, outcome_at, done_at, spare_at}
 use Rattle.worm_device.specs.Looks.{IsOfCell, IsSeen}
 use Rattle.worm_device.specs.ReadRows.{AreFoundBetween, IsFoundBetween}
 use Rattle.worm_device.specs.Views.{ViewState}
@@ -31,7 +30,7 @@ module _ (g : Layout) (n at : ℕ) (row : List (Option (List ℕ))) (old new : V
       (subst (λ (k : ℕ). IsFoundBetween old.image new.image k (found_cell found)) (omega (arith, here, is))
       (read tells place (found_cell found) less holds))
 
-  pub stamp_seen : (spare : Found) → g.version ≡ STAMPED_VERSION → 4 ≤ length row → IsOfCell (spare_at n) spare
+  pub stamp_seen : (spare : Found) → TakesStamps g → 4 ≤ length row → IsOfCell (spare_at n) spare
       → slice_get row 3 ≡ Some (found_cell spare) → IsTrue old.base.tells
       → SeenStamp g n (Some spare) old.image new.image
   stamp_seen spare stamped four of holds tells =

@@ -2,9 +2,8 @@
 use Rattle.std.proofs.Common.{◌≡◌, ◌<◌, ◌≤◌, arith, ℕ, List, length, Option, None, Some, Ok, Err, refl, ap, subst, sym, ◌∙◌}
 use Rattle.std.specs.Prelude.{IsTrue}
 use Rattle.std.proofs.lemmas.Option.{none-some}
-use Rattle.cell_types.specs.Layout.{Layout, reserve_at, spare_at}
+use Rattle.cell_types.specs.Layout.{Layout, TakesStamps, reserve_at, spare_at}
 use Rattle.cell_types.specs.Records.{IsRecordCell}
-use Rattle.cell_types.specs.declared.geometry.TheConstants.{STAMPED_VERSION}
 use Rattle.cell_types.specs.declared.record_cell.RecordCell.{RecordCell}
 use Rattle.cell_types.specs.declared.record_cell.RecordCell.TheVariants.{Stamp}
 use Rattle.cell_types.specs.declared.refusal.Evidence.{Evidence}
@@ -30,7 +29,7 @@ stamps a b e = cc
 
 -- rows that have a slot's first three cells, and its spare cell where documents are stamped
 module _ (g : Layout) (n : ℕ) (row : List (Option (List ℕ))) {old new : ViewState} (reads : ReadsSlots n row old new)
-    (three : 3 ≤ length row) (four : g.version ≡ STAMPED_VERSION → 4 ≤ length row) where
+    (three : 3 ≤ length row) (four : TakesStamps g → 4 ≤ length row) where
   -- what the row says of the spare cell was seen there
   spare_seen : (stamp : Option Found) → IsSpareOfRow g n row stamp → IsTrue old.base.tells
       → SeenStamp g n stamp old.image new.image

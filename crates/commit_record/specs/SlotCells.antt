@@ -1,9 +1,8 @@
 -- What was found in the cells of a slot makes a state, whatever two images it was found between.
 use Rattle.std.specs.Prelude.{◌≡◌, ℕ, List, length, Option, Some, None, Result, Ok, Err, IsTrue, slice_get, ⊤}
 use Rattle.cell_types.specs.Image.{Image}
-use Rattle.cell_types.specs.Layout.{Layout, reserve_at, outcome_at, done_at, spare_at}
+use Rattle.cell_types.specs.Layout.{Layout, TakesStamps, reserve_at, outcome_at, done_at, spare_at}
 use Rattle.cell_types.specs.Records.{IsRecordCell}
-use Rattle.cell_types.specs.declared.geometry.TheConstants.{STAMPED_VERSION}
 use Rattle.cell_types.specs.declared.record_cell.RecordCell.{RecordCell}
 use Rattle.cell_types.specs.declared.record_cell.RecordCell.TheVariants.{Stamp}
 use Rattle.cell_types.specs.declared.refusal.Evidence.{Evidence}
@@ -28,8 +27,8 @@ found_cell (Stray cell) = Some cell
 
 -- this was found in slot n's stamp cell, which is looked at where documents are stamped, and not on another volume
 abbrev pub SeenStamp : Layout → ℕ → Option Found → Image → Image → Type 0
-SeenStamp g n None before after = g.version ≡ STAMPED_VERSION → ⊥
-SeenStamp g n (Some stamp) before after = (g.version ≡ STAMPED_VERSION) × IsSeen before after (spare_at n) stamp
+SeenStamp g n None before after = TakesStamps g → ⊥
+SeenStamp g n (Some stamp) before after = TakesStamps g × IsSeen before after (spare_at n) stamp
 
 -- How a look at slot n's stamp cell may end. It was made at the later of the two states.
 abbrev pub StampSeen : Layout → ℕ → ViewState → ViewState → Result (Option Found) Failed → Type 0
@@ -109,9 +108,9 @@ pub record RowEnds (g : Layout) (n : ℕ) (row : List (Option (List ℕ))) (stam
 -- This is what the fourth place of a row says of slot n's spare cell: it is asked where documents are stamped, and there
 -- alone.
 abbrev pub IsSpareOfRow : Layout → ℕ → List (Option (List ℕ)) → Option Found → Type 0
-IsSpareOfRow g n row None = g.version ≡ STAMPED_VERSION → ⊥
+IsSpareOfRow g n row None = TakesStamps g → ⊥
 IsSpareOfRow g n row (Some spare) =
-    (g.version ≡ STAMPED_VERSION) × IsOfCell (spare_at n) spare × (slice_get row 3 ≡ Some (found_cell spare))
+    TakesStamps g × IsOfCell (spare_at n) spare × (slice_get row 3 ≡ Some (found_cell spare))
 
 -- the row says that slot n has a stamp, where documents are stamped
 pub record IsStampedByRow (g : Layout) (n : ℕ) (row : List (Option (List ℕ))) : Type 0 where

@@ -1,8 +1,8 @@
 -- In which state a slot is, and what says that it is in none.
-use Rattle.std.specs.Prelude.{◌≡◌, ◌<◌, ◌≤◌, ◌+◌, ◌-◌, ◌⊎◌, min, ℕ, Some, None, Result, Ok, Err, IsTrue, ⊤}
+use Rattle.std.specs.Prelude.{◌≡◌, ◌<◌, ◌≤◌, ◌+◌, ◌⊎◌, ℕ, Some, None, Result, Ok, Err, IsTrue, ⊤}
 use Rattle.cell_types.specs.Image.{Image}
-use Rattle.cell_types.specs.Layout.{Layout, reserve_at, outcome_at, done_at, spare_at, pool_at}
-use Rattle.cell_types.specs.declared.geometry.TheConstants.{FOLDED_VERSION, MAX_CELLS, STAMPED_VERSION}
+use Rattle.cell_types.specs.Layout.{Layout, TakesStamps, reserve_at, outcome_at, done_at, spare_at, pool_at, time_lists}
+use Rattle.cell_types.specs.declared.geometry.TheConstants.{MAX_CELLS}
 use Rattle.cell_types.specs.declared.record_cell.TheConstants.{MIN_STORED_BYTES, MAX_STORED_BYTES}
 use Rattle.cell_types.specs.declared.record_cell.RecordCell.TheVariants as records
 use Rattle.cell_types.specs.declared.refusal.Evidence.{Evidence}
@@ -44,9 +44,9 @@ StateLiesInPool g (Abandoned start length) = AreOfPool g start length
 StateLiesInPool g (Committed start length bytes journal) = AreOfPool g start length × FitsInto length bytes journal
 StateLiesInPool g (Done start length bytes journal) = AreOfPool g start length × FitsInto length bytes journal
 
--- how many cells of a slot hold a stamp: one where documents are stamped, and none before
+-- how many cells of a slot hold a stamp: one where documents are stamped, as there is one time list then, and none before
 abbrev pub stamp_cells : Layout → ℕ
-stamp_cells g = min 1 (g.version - FOLDED_VERSION)
+stamp_cells g = time_lists g
 
 -- Slot n lacks a stamp, as seen between two images: its spare cell was blank, or holds none. Somebody else may write the
 -- stamp behind a look that found the cell blank, so the later image may have it.
@@ -70,7 +70,7 @@ pub data IsNoState (g : Layout) (before after : Image) (n rule cell : ℕ) : Typ
   -- the outcome cell states a document that fits, documents are stamped, and the slot lacks its stamp
   ends_unstamped : (start length bytes journal : ℕ) → rule ≡ OUTCOME_CELL → cell ≡ outcome_at n
       → Reserves g after n start length → Holds after (outcome_at n) (records.Commit bytes journal)
-      → cells_for bytes + journal ≤ length → g.version ≡ STAMPED_VERSION → LacksStamp before after n
+      → cells_for bytes + journal ≤ length → TakesStamps g → LacksStamp before after n
       → IsNoState g before after n rule cell
   -- a done cell stands, and nothing is reserved
   done_unreserved : rule ≡ DONE_CELL → cell ≡ done_at n → before (reserve_at n) ≡ None → before (outcome_at n) ≡ None

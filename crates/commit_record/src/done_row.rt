@@ -1,22 +1,20 @@
 //! A slot that is done, by a row of its cells: each is asked for by the kind that it has to have, and none is decoded
 //! whole.
-ghost use Rattle.std.specs.Prelude.{◌≡◌, ◌<◌, ◌≤◌, IfSome, IsTrue, Ok, length};
-ghost use Rattle.cell_types.specs.declared.geometry.TheConstants.{STAMPED_VERSION};
+ghost use Rattle.std.specs.Prelude.{◌<◌, ◌≤◌, IfSome, IsTrue, Ok, length};
+ghost use Rattle.cell_types.specs.Layout.{TakesStamps};
 ghost use Rattle.cell_types.specs.declared.record_cell.RecordCell.TheVariants as records;
 ghost use Rattle.commit_record.specs.SlotCells.{HoldsRecord, IsStampedByRow, SlotOfRow};
 
 use crate::slot::SlotState;
 use crate::slot_cells::{fits_into, lies_in_pool};
-use cell_types::{
-    Cell, Geometry, STAMPED_VERSION, decode_commit, decode_done, decode_reserve, decode_stamp,
-};
+use cell_types::{Cell, Geometry, decode_commit, decode_done, decode_reserve, decode_stamp};
 
 /// The state of a slot that is done, where its cells, the first of a row, say so. It is `None` where they make another
 /// state, or none.
 pub(crate) fn done_of_row(geometry: &Geometry, slot: u32, row: &[Option<Cell>]) -> Option<SlotState>
     requires slot { slot < geometry.now.slots }
     requires three { 3 ≤ length row.now }
-    requires four { geometry.now.version ≡ STAMPED_VERSION → 4 ≤ length row.now }
+    requires four { TakesStamps geometry.now → 4 ≤ length row.now }
     ensures { IfSome result (λ state. SlotOfRow geometry.now slot row.now (Ok state)) }
 {
     let first = row[0];
@@ -34,7 +32,7 @@ pub(crate) fn done_of_row(geometry: &Geometry, slot: u32, row: &[Option<Cell>]) 
     if !fits_into(length, bytes, journal) {
         return None;
     }
-    if !is_stamped(geometry, slot, row) {
+    if !has_stamp_in_row(geometry, slot, row) {
         return None;
     }
     Some(SlotState::Done {
@@ -47,12 +45,12 @@ pub(crate) fn done_of_row(geometry: &Geometry, slot: u32, row: &[Option<Cell>]) 
 
 /// Whether the slot's spare cell holds a stamp, if documents are stamped.
 #[inline]
-fn is_stamped(geometry: &Geometry, slot: u32, row: &[Option<Cell>]) -> bool
+fn has_stamp_in_row(geometry: &Geometry, slot: u32, row: &[Option<Cell>]) -> bool
     requires slot { slot < geometry.now.slots }
-    requires four { geometry.now.version ≡ STAMPED_VERSION → 4 ≤ length row.now }
+    requires four { TakesStamps geometry.now → 4 ≤ length row.now }
     ensures { IsTrue result → IsStampedByRow geometry.now slot row.now }
 {
-    if geometry.version() != STAMPED_VERSION {
+    if !geometry.is_stamped() {
         return true;
     }
     let spare = row[3];

@@ -5,7 +5,7 @@ ghost use Rattle.commit_record.specs.Partition.{HasRoom};
 ghost use Rattle.commit_record.specs.States.{StateEnds, stamp_cells};
 
 use crate::slot_row::{plain_state, stamped_state};
-use cell_types::{Fault, STAMPED_VERSION, Volume};
+use cell_types::{Fault, Volume};
 use worm_device::View;
 
 /// What has come of a slot. `start` is the first cell that it reserves and `length` how many they are; `bytes` is how
@@ -51,7 +51,7 @@ pub fn slot_state<V: View>(view: &mut V, volume: &Volume, slot: u32) -> Result<S
     ensures room { IfOk result (λ state. HasRoom state) }
     ensures ends { StateEnds volume.now.geometry slot (V.seen view.old) (V.seen view.new) result }
 {
-    if volume.geometry.version() == STAMPED_VERSION {
+    if volume.geometry.is_stamped() {
         return stamped_state(view, &volume.geometry, slot);
     }
     plain_state(view, &volume.geometry, slot)

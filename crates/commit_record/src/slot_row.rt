@@ -1,6 +1,6 @@
 //! The state of a slot by its cells, which are neighbours and are read as one row, and its stamp.
 ghost use Rattle.std.specs.Prelude.{◌≡◌, ◌<◌, ◌≤◌, ◌+◌, IfOk, length};
-ghost use Rattle.cell_types.specs.declared.geometry.TheConstants.{STAMPED_VERSION};
+ghost use Rattle.cell_types.specs.Layout.{TakesStamps};
 ghost use Rattle.worm_device.specs.Looks.{IsOfCell};
 ghost use Rattle.worm_device.specs.Views.{Viewed};
 ghost use Rattle.commit_record.specs.Partition.{HasRoom};
@@ -11,7 +11,7 @@ use crate::done_row::{done_of_row, held_stamp};
 use crate::slot::SlotState;
 use crate::slot_cells::{found_there, state_of_cells};
 use crate::stamp_cell::stamp_found;
-use cell_types::{Cell, Evidence, Fault, Geometry, STAMPED_VERSION};
+use cell_types::{Cell, Evidence, Fault, Geometry};
 use worm_device::{Found, View};
 
 /// The state of a slot on a volume whose documents are not stamped. It reads three cells.
@@ -22,7 +22,7 @@ pub(crate) fn plain_state<V: View>(
 ) -> Result<SlotState, Fault>
     requires slot { slot < geometry.now.slots }
     requires size { geometry.now.cells ≤ (V.seen view.old).cells }
-    requires plain { geometry.now.version ≡ STAMPED_VERSION → ⊥ }
+    requires plain { TakesStamps geometry.now → ⊥ }
     ensures viewed { Viewed (V.seen view.old) (V.seen view.new) }
     ensures reads { (V.seen view.new).base.reads ≤ (V.seen view.old).base.reads + 3 }
     ensures room { IfOk result (λ state. HasRoom state) }
@@ -43,7 +43,7 @@ pub(crate) fn stamped_state<V: View>(
 ) -> Result<SlotState, Fault>
     requires slot { slot < geometry.now.slots }
     requires size { geometry.now.cells ≤ (V.seen view.old).cells }
-    requires stamped { geometry.now.version ≡ STAMPED_VERSION }
+    requires stamped { TakesStamps geometry.now }
     ensures viewed { Viewed (V.seen view.old) (V.seen view.new) }
     ensures reads { (V.seen view.new).base.reads ≤ (V.seen view.old).base.reads + 4 }
     ensures room { IfOk result (λ state. HasRoom state) }
@@ -101,7 +101,7 @@ fn stamp_found_in_row(geometry: &Geometry, slot: u32, row: &[Option<Cell>]) -> O
 fn state_of_row(geometry: &Geometry, slot: u32, row: &[Option<Cell>]) -> Result<SlotState, Evidence>
     requires slot { slot < geometry.now.slots }
     requires three { 3 ≤ length row.now }
-    requires four { geometry.now.version ≡ STAMPED_VERSION → 4 ≤ length row.now }
+    requires four { TakesStamps geometry.now → 4 ≤ length row.now }
     ensures { SlotOfRow geometry.now slot row.now result }
 {
     if let Some(state) = done_of_row(geometry, slot, row) {
@@ -115,10 +115,10 @@ fn state_of_row(geometry: &Geometry, slot: u32, row: &[Option<Cell>]) -> Result<
 #[cold]
 fn spare_of_row(geometry: &Geometry, slot: u32, row: &[Option<Cell>]) -> Option<Found>
     requires slot { slot < geometry.now.slots }
-    requires four { geometry.now.version ≡ STAMPED_VERSION → 4 ≤ length row.now }
+    requires four { TakesStamps geometry.now → 4 ≤ length row.now }
     ensures { IsSpareOfRow geometry.now slot row.now result }
 {
-    if geometry.version() != STAMPED_VERSION {
+    if !geometry.is_stamped() {
         return None;
     }
     let spare = row[3];

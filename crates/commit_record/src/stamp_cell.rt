@@ -5,7 +5,7 @@ ghost use Rattle.commit_record.specs.SlotCells.{StampSeen};
 ghost use Rattle.commit_record.specs.Stamps.{IsStampFound, IsStampIn, ReadsStamp};
 ghost use Rattle.commit_record.specs.States.{stamp_cells};
 
-use cell_types::{Geometry, RecordCell, STAMPED_VERSION, Volume};
+use cell_types::{Geometry, RecordCell, Volume};
 use worm_device::{Failed, Found, View, look};
 
 /// What stands in the stamp cell of a slot, and `None` on a volume whose documents are not stamped, where nothing is
@@ -21,7 +21,7 @@ pub fn look_at_stamp<V: View>(
     ensures reads { (V.seen view.new).base.reads ≤ (V.seen view.old).base.reads + stamp_cells geometry.now }
     ensures ends { StampSeen geometry.now slot (V.seen view.old) (V.seen view.new) result }
 {
-    if geometry.version() != STAMPED_VERSION {
+    if !geometry.is_stamped() {
         return Ok(None);
     }
     let found = look(view, geometry.spare_at(slot))?;

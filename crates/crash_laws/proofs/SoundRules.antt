@@ -2,9 +2,8 @@
 use Rattle.std.proofs.Common.{◌≡◌, ◌<◌, ◌≤◌, ◌+◌, ◌*◌, ◌^◌, ◌⊎◌, ℕ, List, Some, None, refl, sym, ap, ◌∙◌, inl, inr, ⊎_elim, subst, arith, length, slice_index, take, drop}
 use Rattle.std.proofs.lemmas.Option.{none-some}
 use Rattle.cell_types.specs.Image.{Image, Extends}
-use Rattle.cell_types.specs.Layout.{Layout, spare_at, reserve_at, outcome_at, done_at, lists_at}
+use Rattle.cell_types.specs.Layout.{Layout, TakesStamps, spare_at, reserve_at, outcome_at, done_at, lists_at}
 use Rattle.cell_types.specs.Records.{IsRecordCell, record_bytes}
-use Rattle.cell_types.specs.declared.geometry.TheConstants.{STAMPED_VERSION}
 use Rattle.cell_types.specs.declared.record_cell.RecordCell.{RecordCell}
 use Rattle.cell_types.specs.declared.record_cell.RecordCell.TheVariants.{Volume, Reserve, Commit, Abandon, Done, Posting, Jump, Bucket, Child, Stamp}
 use Rattle.cell_types.proofs.OneRecord.{address_in, body_in, body_is_one, one_record}
@@ -331,7 +330,7 @@ module _ {g : Layout} {image after : Image} (e : Extends image after) (s : IsSet
               (λ (a : Holds after (outcome_at m) Abandon). inl (back w a))
               (λ (c : (bytes : ℕ) × (journal : ℕ) × Holds after (outcome_at m) (Commit bytes journal)
               × ((start reserved : ℕ) → Holds after (reserve_at m) (Reserve start reserved)
-              → cells_for bytes + journal ≤ reserved) × (g.version ≡ STAMPED_VERSION → IsStamped after m)). inr (
+              → cells_for bytes + journal ≤ reserved) × (TakesStamps g → IsStamped after m)). inr (
                 c.0,
                 c.1,
                 back w c.2,

@@ -1,8 +1,7 @@
 -- What it means that a document is ingested, or that this was ended.
 use Rattle.std.specs.Prelude.{◌≡◌, ◌<◌, ◌≤◌, ◌+◌, ◌-◌, ◌⊎◌, ℕ, List, [], ◌∷◌, ◌++◌, length, Option, None, Some, Result, Ok, Err, IsOk, IsTrue}
 use Rattle.cell_types.specs.Image.{Image, Extends, IsUnchanged}
-use Rattle.cell_types.specs.Layout.{Layout, reserve_at, spare_at}
-use Rattle.cell_types.specs.declared.geometry.TheConstants.{STAMPED_VERSION}
+use Rattle.cell_types.specs.Layout.{Layout, TakesNoStamps, TakesStamps, reserve_at, spare_at}
 use Rattle.cell_types.specs.declared.refusal.Evidence.{Evidence}
 use Rattle.cell_types.specs.declared.refusal.Refusal.{Refusal}
 use Rattle.cell_types.specs.declared.refusal.Refusal.TheVariants.{DeviceFault, Duplicate, Full, NoMemory, NotAVolume, NotFormatted, PathFull, SlotsFull, StampNeeded, StampTooEarly, StampUnused, Tampered, TooManyTerms, WrongSize}
@@ -95,9 +94,8 @@ pub record IsIngested (id : List ℕ) (stamp : Option ℕ) (body : List ℕ) (n 
 -- how a look whether the volume takes such a stamp may end, and why
 abbrev pub CheckStampEnds : Ready → Option ℕ → Result Unit Refusal → Type 0
 CheckStampEnds r stamp (Ok u) = IsStampFor r.volume.geometry stamp
-CheckStampEnds r stamp (Err StampNeeded) = (r.volume.geometry.version ≡ STAMPED_VERSION) × (stamp ≡ None)
-CheckStampEnds r stamp (Err StampUnused) =
-    (r.volume.geometry.version < STAMPED_VERSION) × ((seconds : ℕ) × (stamp ≡ Some seconds))
+CheckStampEnds r stamp (Err StampNeeded) = TakesStamps r.volume.geometry × (stamp ≡ None)
+CheckStampEnds r stamp (Err StampUnused) = TakesNoStamps r.volume.geometry × ((seconds : ℕ) × (stamp ≡ Some seconds))
 CheckStampEnds r stamp (Err refusal) = ⊥
 
 -- The volume was settled, and does not take such a stamp, by this refusal.

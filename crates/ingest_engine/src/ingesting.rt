@@ -5,7 +5,7 @@ ghost use Rattle.ingest_engine.specs.Ingesting.{Ingests, RoomEnds, SlotsEnd, Che
 
 use crate::document::StoredDocument;
 use crate::indexing::plan_for;
-use cell_types::{Refusal, STAMPED_VERSION};
+use cell_types::Refusal;
 use plan_writer::{Plan, crashes_leave_whole_slots, put_planned};
 use recovery_engine::{Ready, settle};
 use std::alloc::Global;
@@ -61,7 +61,7 @@ pub fn ingest<D: Device>(
 fn check_stamp(ready: &Ready, stamp: Option<u32>) -> Result<(), Refusal>
     ensures { CheckStampEnds ready.now stamp result }
 {
-    let is_stamped = ready.volume.geometry.version() == STAMPED_VERSION;
+    let is_stamped = ready.volume.geometry.is_stamped();
     if is_stamped && stamp.is_none() {
         return Err(Refusal::StampNeeded);
     }

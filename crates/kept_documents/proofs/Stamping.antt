@@ -1,15 +1,14 @@
 -- The stamp of a slot, over plain values.
-use Rattle.std.proofs.Common.{◌≡◌, ℕ, Option, Some, None, Ok, arith}
+use Rattle.std.proofs.Common.{ℕ, Option, Some, None, Ok, arith}
 use Rattle.std.specs.Prelude.{IsTrue}
-use Rattle.cell_types.specs.Layout.{Layout}
-use Rattle.cell_types.specs.declared.geometry.TheConstants.{STAMPED_VERSION}
+use Rattle.cell_types.specs.Layout.{Layout, TakesStamps}
 use Rattle.volume_meaning.specs.Slots.{IsStampOf}
 use Rattle.volume_meaning.proofs.Extending.{holds_on}
 use Rattle.worm_device.specs.Views.{ViewState, Viewed}
 use Rattle.commit_record.specs.Stamps.{ReadStampEnds}
 use Rattle.kept_documents.specs.Stamps.{AsksStamp}
 
-module _ (g : Layout) (n : ℕ) {old new : ViewState} (viewed : Viewed old new) (version : g.version ≡ STAMPED_VERSION)
+module _ (g : Layout) (n : ℕ) {old new : ViewState} (viewed : Viewed old new) (version : TakesStamps g)
   where
     -- a slot without a stamp in the end had none before
     pub without_stamp : ReadStampEnds n old new (Ok None) → AsksStamp g n old new (Ok None)

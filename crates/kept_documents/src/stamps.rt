@@ -2,7 +2,7 @@
 ghost use Rattle.std.specs.Prelude.{◌<◌, ◌≤◌};
 ghost use Rattle.kept_documents.specs.Stamps.{AsksStamp};
 
-use cell_types::{STAMPED_VERSION, Volume};
+use cell_types::Volume;
 use commit_record::stamp_of;
 use worm_device::{Failed, View};
 
@@ -23,7 +23,7 @@ pub fn slot_stamp<V: View>(
     requires size { volume.now.geometry.cells ≤ (V.seen view.old).cells }
     ensures { AsksStamp volume.now.geometry slot (V.seen view.old) (V.seen view.new) result }
 {
-    if volume.geometry.version() != STAMPED_VERSION {
+    if !volume.geometry.is_stamped() {
         return Ok(Some(SlotStamp { seconds: None }));
     }
     let found = stamp_of(view, volume, slot)?;

@@ -8,7 +8,7 @@ ghost use Rattle.list_audit.specs.Blocks.{AreListBlocks, AreNumbered, AreClosedB
 use crate::found::FoundBlocks;
 use crate::listed::ListBlock;
 use crate::targets::pointer_target;
-use cell_types::{Geometry, NoMemory, STAMPED_VERSION, memory};
+use cell_types::{Geometry, NoMemory, memory};
 use log_audit::KeptCells;
 use std::alloc::Global;
 
@@ -46,7 +46,7 @@ pub fn blocks_of(
 pub(crate) fn list_count(geometry: &Geometry) -> u16
     ensures { result ≡ all_lists geometry.now }
 {
-    if geometry.version() == STAMPED_VERSION {
+    if geometry.is_stamped() {
         return geometry.lists() + 1;
     }
     geometry.lists()

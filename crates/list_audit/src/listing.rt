@@ -8,7 +8,7 @@ ghost use Rattle.log_audit.specs.Stored.{IsStored};
 ghost use Rattle.list_audit.specs.Bodies.{AreRowsOf, HasNoRows};
 
 use crate::bodies::words_of;
-use cell_types::{Geometry, NoMemory, RecordCell, Refusal, STAMPED_VERSION};
+use cell_types::{Geometry, NoMemory, RecordCell, Refusal};
 use log_audit::{KeptCells, StoredSlot, record_at};
 use std::alloc::Global;
 use term_tags::{KnownKeys, ListedPosting, document_postings_by};
@@ -52,7 +52,7 @@ fn stamp_of(kept: &KeptCells, geometry: &Geometry, slot: &StoredSlot) -> Option<
     ensures { IsStampOf geometry.now (image_of_kept kept.now) slot.now.slot result }
 {
     let _few = geometry.slots();
-    if geometry.version() != STAMPED_VERSION {
+    if !geometry.is_stamped() {
         return None;
     }
     let Some(held) = record_at(kept, geometry.spare_at(slot.slot)) else {

@@ -1,9 +1,8 @@
 -- What rule 2 asks of a commit cell.
-use Rattle.std.proofs.Common.{◌≡◌, ◌≤◌, ◌+◌, ◌↔◌, ⊎_elim, inr, ℕ, Bool, subst}
+use Rattle.std.proofs.Common.{◌≤◌, ◌+◌, ◌↔◌, ⊎_elim, inr, ℕ, Bool, subst}
 use Rattle.std.specs.Prelude.{IsTrue}
 use Rattle.cell_types.specs.Image.{Image}
-use Rattle.cell_types.specs.Layout.{Layout, reserve_at, outcome_at, done_at}
-use Rattle.cell_types.specs.declared.geometry.TheConstants.{STAMPED_VERSION}
+use Rattle.cell_types.specs.Layout.{Layout, TakesStamps, reserve_at, outcome_at, done_at}
 use Rattle.cell_types.specs.declared.record_cell.RecordCell.TheVariants.{Abandon, Commit, Done, Reserve}
 use Rattle.volume_meaning.specs.Slots.{cells_for, Reserves, IsStamped, IsAbandonedSlot, IsDone, IsDoneSlot, HasEnded}
 use Rattle.volume_meaning.specs.Volumes.{Holds, IsWritten}
@@ -26,7 +25,7 @@ module _ (g : Layout) (image : Image) (n bytes journal : ℕ) (held : Holds imag
       rule.outcome
 
   -- and that the slot has a stamp, where the volume has stamps
-  pub outcome_stamped : OutcomeRule g image n → g.version ≡ STAMPED_VERSION → IsStamped image n
+  pub outcome_stamped : OutcomeRule g image n → TakesStamps g → IsStamped image n
   outcome_stamped rule version = ⊎_elim
       (λ (a : Holds image (outcome_at n) Abandon). absurd (no_abandon a))
       (λ d. d.4 version)
@@ -41,7 +40,7 @@ module _ (g : Layout) (image : Image) (n bytes journal : ℕ) (held : Holds imag
 
   -- and one is done with this commit cell
   pub done_with : {start reserved : ℕ} → Reserves g image n start reserved → cells_for bytes + journal ≤ reserved
-      → (g.version ≡ STAMPED_VERSION → IsStamped image n) → Holds image (done_at n) (Done n)
+      → (TakesStamps g → IsStamped image n) → Holds image (done_at n) (Done n)
       → IsDone g image n start reserved bytes journal
   done_with reserves fits stamped done = record {
     commits = record { reserves = reserves; outcome = held; fits = fits; stamped = stamped };
@@ -51,7 +50,7 @@ module _ (g : Layout) (image : Image) (n bytes journal : ℕ) (held : Holds imag
   -- and nothing else, where the reserve cell is written
   pub outcome_of_commit : (b : Bool) → IsWritten image (reserve_at n)
       → ((start reserved : ℕ) → Holds image (reserve_at n) (Reserve start reserved) → cells_for bytes + journal ≤ reserved)
-      → (IsTrue b ↔ (g.version ≡ STAMPED_VERSION → IsStamped image n)) → (IsTrue b ↔ OutcomeRule g image n)
+      → (IsTrue b ↔ (TakesStamps g → IsStamped image n)) → (IsTrue b ↔ OutcomeRule g image n)
   outcome_of_commit b reserve fits stamped = (
     λ yes. record { reserve = reserve; outcome = inr (bytes, journal, held, fits, stamped.0 yes) },
     λ rule. stamped.1 (outcome_stamped rule),

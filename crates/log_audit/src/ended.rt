@@ -1,7 +1,6 @@
 //! Slots that have ended.
 ghost use Rattle.std.specs.Prelude.{◌≡◌, ◌<◌, ◌+◌, ◌≤◌, ◌↔◌, IsTrue, IfSome, IfNone};
-ghost use Rattle.cell_types.specs.declared.geometry.TheConstants.{STAMPED_VERSION};
-ghost use Rattle.cell_types.specs.Layout.{done_at};
+ghost use Rattle.cell_types.specs.Layout.{TakesStamps, done_at};
 ghost use Rattle.cell_types.specs.declared.record_cell.RecordCell.TheVariants.{Done};
 ghost use Rattle.volume_meaning.specs.Slots.{HasEnded, IsStamped, cells_for};
 ghost use Rattle.volume_meaning.specs.Volumes.{Holds};
@@ -10,7 +9,7 @@ ghost use Rattle.log_audit.specs.Logs.{IsEnded, FitsOnDevice, start_of, end_of};
 
 use crate::kept::KeptCells;
 use crate::looks::{record_at, reservation};
-use cell_types::{Geometry, RecordCell, STAMPED_VERSION};
+use cell_types::{Geometry, RecordCell};
 use commit_record::document_cells;
 
 /// What has come of a slot that has ended. `start` is the first cell that it reserves and `length` how many they are;
@@ -115,9 +114,9 @@ pub(crate) fn is_done_cell(kept: &KeptCells, geometry: &Geometry, slot: u32) -> 
 /// Whether the slot has a stamp, where the volume's documents are stamped.
 pub(crate) fn has_its_stamp(kept: &KeptCells, geometry: &Geometry, slot: u32) -> bool
     requires { slot < geometry.now.slots }
-    ensures { IsTrue result ↔ (geometry.now.version ≡ STAMPED_VERSION → IsStamped (image_of_kept kept.now) slot) }
+    ensures { IsTrue result ↔ (TakesStamps geometry.now → IsStamped (image_of_kept kept.now) slot) }
 {
-    if geometry.version() != STAMPED_VERSION {
+    if !geometry.is_stamped() {
         return true;
     }
     let Some(held) = record_at(kept, geometry.spare_at(slot)) else {

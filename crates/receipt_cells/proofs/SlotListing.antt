@@ -3,8 +3,7 @@ use Rattle.std.proofs.Common.{◌≡◌, ◌<◌, ◌≤◌, ◌+◌, ◌-◌, �
 use Rattle.std.specs.Prelude.{IsTrue, length}
 use Rattle.std.proofs.lemmas.Bool.{cases_lt}
 use Rattle.cell_types.specs.Image.{Image, Extends}
-use Rattle.cell_types.specs.Layout.{IsLayout, Layout, outcome_at, reserve_at}
-use Rattle.cell_types.specs.declared.geometry.TheConstants.{STAMPED_VERSION}
+use Rattle.cell_types.specs.Layout.{IsLayout, Layout, TakesStamps, outcome_at, reserve_at}
 use Rattle.cell_types.specs.declared.record_cell.RecordCell.{RecordCell}
 use Rattle.cell_types.specs.declared.refusal.Fault.{Fault}
 use Rattle.cell_types.specs.declared.refusal.Fault.TheVariants as faults
@@ -106,8 +105,8 @@ module _ (g : Layout) (n count : ℕ) (part : Part) (are : AreLogCells g count) 
       (λ (past : 6 + 4 * n ≤ c). ⊎_elim
       (λ (less : c < 7 + 4 * n). done_cell (omega (arith, less, past)))
       (λ (last : 7 + 4 * n ≤ c). ⊎_elim
-      (λ (four : (g.version ≡ STAMPED_VERSION) × (count ≡ 4)). stamp_cell four.0 (omega (arith, last, row.1, four.1)))
-      (λ (three : (g.version ≡ STAMPED_VERSION → ⊥) × (count ≡ 3)). absurd (omega (arith, last, row.1, three.1)))
+      (λ (four : TakesStamps g × (count ≡ 4)). stamp_cell four.0 (omega (arith, last, row.1, four.1)))
+      (λ (three : (TakesStamps g → ⊥) × (count ≡ 3)). absurd (omega (arith, last, row.1, three.1)))
       are)
       (cases_lt c (7 + 4 * n)))
       (cases_lt c (6 + 4 * n)))
@@ -141,11 +140,11 @@ module _ (g : Layout) (n count : ℕ) (part : Part) (are : AreLogCells g count) 
   to_either id body h c (done_cell same) =
       (inl (omega (arith, same), omega (arith, same, least)), holds_written c same is.done.done)
   to_either id body h c (stamp_cell stamped same) = ⊎_elim
-      (λ (four : (g.version ≡ STAMPED_VERSION) × (count ≡ 4)). (
+      (λ (four : TakesStamps g × (count ≡ 4)). (
         inl (omega (arith, same), omega (arith, same, four.1)),
         holds_written c same (is.done.commits.stamped stamped).stamp,
       ))
-      (λ (three : (g.version ≡ STAMPED_VERSION → ⊥) × (count ≡ 3)). absurd (three.0 stamped))
+      (λ (three : (TakesStamps g → ⊥) × (count ≡ 3)). absurd (three.0 stamped))
       are
   to_either id body h c (document_cell start length bytes journal k done below same) =
       let one = one_part g new n part start length bytes journal (part_on e is) done in

@@ -3,8 +3,7 @@
 -- Each relation says of a cell that it is one of them, along the trail, the path or the slot whose cells they are.
 use Rattle.std.specs.Prelude.{◌≡◌, ◌<◌, ◌≤◌, ◌+◌, ◌⊎◌, ℕ, List, Option, Some}
 use Rattle.cell_types.specs.Image.{Image}
-use Rattle.cell_types.specs.Layout.{Layout, all_lists, list_at, pool_at, reserve_at, outcome_at, done_at, root_at, spare_at}
-use Rattle.cell_types.specs.declared.geometry.TheConstants.{STAMPED_VERSION}
+use Rattle.cell_types.specs.Layout.{Layout, TakesStamps, all_lists, list_at, pool_at, reserve_at, outcome_at, done_at, root_at, spare_at}
 use Rattle.cell_types.specs.declared.record_cell.RecordCell.TheVariants.{Bucket}
 use Rattle.volume_meaning.specs.Blocks.{PostingFields, InFront, Hop, pointer_at}
 use Rattle.volume_meaning.specs.Documents.{Document, document_at}
@@ -34,7 +33,7 @@ pub data SlotRests (g : Layout) (image : Image) (n c : ℕ) : Type 0 where
   reserve_cell : c ≡ reserve_at n → SlotRests g image n c
   commit_cell : c ≡ outcome_at n → SlotRests g image n c
   done_cell : c ≡ done_at n → SlotRests g image n c
-  stamp_cell : g.version ≡ STAMPED_VERSION → c ≡ spare_at n → SlotRests g image n c
+  stamp_cell : TakesStamps g → c ≡ spare_at n → SlotRests g image n c
   document_cell : (start length bytes journal k : ℕ) → IsDone g image n start length bytes journal → k < cells_for bytes
       → c ≡ document_at start length bytes journal + k → SlotRests g image n c
 

@@ -1,8 +1,7 @@
 -- What it means that the cells of a slot's document, and those of a hash path, are listed.
 use Rattle.std.specs.Prelude.{◌≡◌, ◌⊎◌, ℕ, List, Option, Some, None, Result, Ok, Err, IsTrue, ⊤}
 use Rattle.sha2.specs.Sha256.{sha256}
-use Rattle.cell_types.specs.Layout.{Layout, root_at}
-use Rattle.cell_types.specs.declared.geometry.TheConstants.{STAMPED_VERSION}
+use Rattle.cell_types.specs.Layout.{Layout, TakesStamps, root_at}
 use Rattle.cell_types.specs.declared.record_cell.RecordCell.TheVariants as records
 use Rattle.cell_types.specs.declared.refusal.Fault.{Fault}
 use Rattle.cell_types.specs.declared.refusal.Fault.TheVariants as faults
@@ -29,8 +28,7 @@ IsUnlisted (faults.Tampered e) result = result ≡ Ok tt
 
 -- so many of a done slot's cells are log cells: four where documents are stamped, and else three
 abbrev pub AreLogCells : Layout → ℕ → Type 0
-AreLogCells g count =
-    ((g.version ≡ STAMPED_VERSION) × (count ≡ 4)) ⊎ ((g.version ≡ STAMPED_VERSION → ⊥) × (count ≡ 3))
+AreLogCells g count = (TakesStamps g × (count ≡ 4)) ⊎ ((TakesStamps g → ⊥) × (count ≡ 3))
 
 -- Where a document stood in slot n at entry, just the cells of the slot are listed.
 abbrev pub SlotListEnds : Layout → ℕ → ViewState → ViewState → List (ℕ × List ℕ) → List (ℕ × List ℕ)

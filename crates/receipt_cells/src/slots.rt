@@ -5,7 +5,7 @@ ghost use Rattle.document_store.specs.Looks.{HasPart};
 ghost use Rattle.receipt_cells.specs.Path.{AreLogCells, IsUnlisted, ListsSlot};
 
 use crate::cells::list_cells;
-use cell_types::{Fault, Geometry, STAMPED_VERSION, Volume};
+use cell_types::{Fault, Geometry, Volume};
 use commit_record::document_cells;
 use document_store::{Part, slot_part};
 use kept_documents::AskFault;
@@ -62,7 +62,7 @@ fn log_cells(geometry: &Geometry) -> u32
     ensures exists { IsLayout geometry.now }
     ensures count { AreLogCells geometry.now result }
 {
-    if geometry.version() == STAMPED_VERSION {
+    if geometry.is_stamped() {
         return 4;
     }
     3

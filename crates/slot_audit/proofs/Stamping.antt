@@ -2,8 +2,7 @@
 use Rattle.std.proofs.Common.{rules, ◌≡◌, ◌<◌, ◌≤◌, ◌+◌, ◌⊎◌, ⊎_elim, ℕ, max, Option, Some, None, subst, true, nat_lt, arith}
 use Rattle.std.specs.Prelude.{IsTrue}
 use Rattle.cell_types.specs.Image.{Image}
-use Rattle.cell_types.specs.Layout.{Layout, spare_at, reserve_at}
-use Rattle.cell_types.specs.declared.geometry.TheConstants.{STAMPED_VERSION}
+use Rattle.cell_types.specs.Layout.{Layout, TakesStamps, spare_at, reserve_at}
 use Rattle.cell_types.specs.declared.record_cell.RecordCell.TheVariants.{Stamp}
 use Rattle.volume_meaning.specs.Slots.{IsDoneSlot, HasStamp}
 use Rattle.volume_meaning.proofs.Holding.{one_record_holds}
@@ -93,7 +92,7 @@ module _ (g : Layout) (image : Image) (n : ℕ) where
             (is.0.0, omega (arith, is.0.1), is.0.2, subst (HasStamp image is.0.0) e is.0.3))
             (order latest own)
 
-  module _ (own : ℕ) (version : g.version ≡ STAMPED_VERSION) (reserve : IsWritten image (reserve_at n))
+  module _ (own : ℕ) (version : TakesStamps g) (reserve : IsWritten image (reserve_at n))
       (stamp : HasStamp image n own) where
     -- no done slot below has a stamp
     pub first_is_true : IsLatest g image n None → (IsTrue true → IsTrueStamp g image n) × (IsTrueStamp g image n → IsTrue true)

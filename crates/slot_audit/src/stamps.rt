@@ -6,7 +6,7 @@ ghost use Rattle.log_audit.specs.KeptVolumes.{FindsPartIn, image_in};
 ghost use Rattle.log_audit.specs.Kept.{image_of_kept};
 ghost use Rattle.slot_audit.specs.Strays.{IsInTime, IsLatest};
 
-use cell_types::{Evidence, Geometry, RecordCell, STAMPED_VERSION};
+use cell_types::{Evidence, Geometry, RecordCell};
 use log_audit::{KeptCells, KeptVolume, record_at};
 use tamper_rules::STRAY_CELL;
 
@@ -39,7 +39,7 @@ fn is_true_stamp(kept: &KeptCells, geometry: &Geometry, slot: u32, latest: Optio
     requires latest { IsLatest geometry.now (image_of_kept kept.now) slot latest }
     ensures { IsTrue result ↔ IsTrueStamp geometry.now (image_of_kept kept.now) slot }
 {
-    if geometry.version() != STAMPED_VERSION {
+    if !geometry.is_stamped() {
         return false;
     }
     if kept.at(geometry.reserve_at(slot)).is_none() {

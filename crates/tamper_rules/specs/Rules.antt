@@ -3,8 +3,7 @@
 use Rattle.std.specs.Prelude.{◌≡◌, ◌≢◌, ◌<◌, ◌≤◌, ◌+◌, ◌/◌, ◌⊎◌, ◌↔◌, ℕ, List, [], ◌∷◌, length, Option, None, Contains}
 use Rattle.sha2.specs.Sha256.{sha256}
 use Rattle.cell_types.specs.Image.{Image}
-use Rattle.cell_types.specs.Layout.{Layout, FirstBlock, Root, LiesIn, all_lists, reserve_at, outcome_at, done_at, spare_at, list_at, root_at, pool_at, lists_at}
-use Rattle.cell_types.specs.declared.geometry.TheConstants.{STAMPED_VERSION}
+use Rattle.cell_types.specs.Layout.{Layout, FirstBlock, Root, LiesIn, TakesStamps, all_lists, reserve_at, outcome_at, done_at, spare_at, list_at, root_at, pool_at, lists_at}
 use Rattle.cell_types.specs.declared.record_cell.RecordCell.{RecordCell}
 use Rattle.cell_types.specs.declared.refusal.Evidence.{Evidence}
 use Rattle.cell_types.specs.declared.record_cell.RecordCell.TheVariants.{Reserve, Commit, Abandon, Done, Jump, Bucket, Child}
@@ -37,7 +36,7 @@ pub record OutcomeRule (g : Layout) (image : Image) (n : ℕ) : Type 0 where
       ⊎ ((bytes : ℕ) × (journal : ℕ) × Holds image (outcome_at n) (Commit bytes journal)
       × ((start reserved : ℕ) → Holds image (reserve_at n) (Reserve start reserved)
       → cells_for bytes + journal ≤ reserved)
-      × (g.version ≡ STAMPED_VERSION → IsStamped image n))
+      × (TakesStamps g → IsStamped image n))
 
 -- Rule 3, at the done cell of slot n: it is the done cell of this slot, and the outcome cell is a commit cell.
 pub record DoneRule (image : Image) (n : ℕ) : Type 0 where
@@ -95,7 +94,7 @@ pub data IsDoneIndexCell (g : Layout) (image : Image) (cell : ℕ) : Type 0 wher
 -- the stamp of slot n is in order: the volume's documents are stamped, the slot's reserve cell is written, and the
 -- stamp is greater than that of each lower done slot
 pub record IsTrueStamp (g : Layout) (image : Image) (n : ℕ) : Type 0 where
-  pub version : g.version ≡ STAMPED_VERSION
+  pub version : TakesStamps g
   pub reserve : IsWritten image (reserve_at n)
   pub seconds : ℕ
   pub stamp : HasStamp image n seconds

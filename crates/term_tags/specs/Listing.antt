@@ -2,8 +2,7 @@
 use Rattle.std.specs.Prelude.{◌≡◌, ◌<◌, ◌≤◌, ◌+◌, ◌*◌, ◌-◌, ℕ, List, [], ◌∷◌, ◌++◌, length, map, slice_index, Option, None, Some, ⊤}
 use Rattle.cell_types.specs.declared.refusal.Refusal.{Refusal}
 use Rattle.cell_types.specs.declared.refusal.Refusal.TheVariants.{TooManyTerms, NoMemory}
-use Rattle.cell_types.specs.Layout.{Layout}
-use Rattle.cell_types.specs.declared.geometry.TheConstants.{STAMPED_VERSION}
+use Rattle.cell_types.specs.Layout.{Layout, TakesStamps}
 use Rattle.volume_meaning.specs.Words.{AreWords, rule_of}
 use Rattle.volume_meaning.specs.Postings.{AreTags, ListedPosting, ArePostings, HasPostings, time_posting}
 use Rattle.term_tags.specs.Keys.{list_in, tag_in, tags_at}
@@ -44,7 +43,7 @@ time_entries lists n (Some seconds) = record { list = lists; posting = time_post
 -- a stamp is given only on a volume of stamped documents
 abbrev pub MayHaveStamp : Layout → Option ℕ → Type 0
 MayHaveStamp g None = ⊤
-MayHaveStamp g (Some seconds) = g.version ≡ STAMPED_VERSION
+MayHaveStamp g (Some seconds) = TakesStamps g
 
 -- of the words of a body these are the postings of its document in slot n, with this stamp
 abbrev pub GivesListed : ℕ → ℕ → Option ℕ → List (List ℕ) → List ListedPosting → Type 0

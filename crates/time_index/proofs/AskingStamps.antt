@@ -1,7 +1,7 @@
 -- Cell 0, as it was seen directly on a device, tells whether documents are stamped.
-use Rattle.std.proofs.Common.{◌<◌, ◌≤◌, ◌+◌, ℕ, Result, Ok, Err, arith}
+use Rattle.std.proofs.Common.{◌≤◌, ◌+◌, ℕ, Result, Ok, Err, arith}
+use Rattle.cell_types.specs.Layout.{TakesStamps}
 use Rattle.cell_types.specs.declared.geometry.Volume.{Volume}
-use Rattle.cell_types.specs.declared.geometry.TheConstants.{STAMPED_VERSION}
 use Rattle.cell_types.specs.declared.refusal.Refusal.{Refusal}
 use Rattle.cell_types.specs.declared.refusal.Refusal.TheVariants.{NoStamps}
 use Rattle.volume_meaning.proofs.Extending.{blank_before}
@@ -34,9 +34,12 @@ module _ (old new : DeviceState) (lent back : ℕ) (device : IsDevice new)
 
   module _ (volume : Volume) (ends : OpenEnds (seen_directly old lent) (seen_directly new back) (Ok volume)) where
     -- its documents are not stamped
-    pub without_stamps : volume.geometry.version < STAMPED_VERSION → AsksStamps old new (Err NoStamps)
-    without_stamps less = asked (Err NoStamps) (ends.3, λ tells. (volume.geometry, ends.4 tells, less))
+    pub without_stamps : (TakesStamps volume.geometry → ⊥) → AsksStamps old new (Err NoStamps)
+    without_stamps other = asked (Err NoStamps) (
+      ends.3,
+      λ tells. (volume.geometry, ends.4 tells, grind (arith, ends.1.version, other)),
+    )
 
     -- they are
-    pub with_stamps : STAMPED_VERSION ≤ volume.geometry.version → AsksStamps old new (Ok tt)
-    with_stamps most = asked (Ok tt) (ends.3, λ tells. (volume.geometry, ends.4 tells, omega (arith, most, ends.1.version)))
+    pub with_stamps : TakesStamps volume.geometry → AsksStamps old new (Ok tt)
+    with_stamps is = asked (Ok tt) (ends.3, λ tells. (volume.geometry, ends.4 tells, is))

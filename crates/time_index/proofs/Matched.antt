@@ -3,10 +3,9 @@ use Rattle.std.proofs.Common.{◌≡◌, ◌<◌, ◌≤◌, ◌+◌, ℕ, List,
 use Rattle.std.specs.Prelude.{IfSome, IsTrue}
 use Rattle.std.proofs.lemmas.List.{length-append}
 use Rattle.cell_types.specs.Image.{Image}
-use Rattle.cell_types.specs.Layout.{Layout, all_lists, spare_at}
+use Rattle.cell_types.specs.Layout.{Layout, TakesStamps, all_lists, spare_at}
 use Rattle.cell_types.specs.Records.{record_bytes}
 use Rattle.cell_types.specs.Refusals.{refusal_of_fault}
-use Rattle.cell_types.specs.declared.geometry.TheConstants.{STAMPED_VERSION}
 use Rattle.cell_types.specs.declared.record_cell.RecordCell.TheVariants.{Stamp}
 use Rattle.cell_types.specs.declared.refusal.Fault.{Fault}
 use Rattle.cell_types.specs.declared.refusal.Fault.TheVariants as faults
@@ -110,7 +109,7 @@ module _ (r : Reach) (e : Entry) (before : Option Stamped) where
   refused {old} {new} viewed fault fails = record { viewed = viewed; ends = refuses old new fault fails }
 
   -- the posting is false
-  pub is_false : {old new : ViewState} → r.volume.geometry.version ≡ STAMPED_VERSION → Viewed old new
+  pub is_false : {old new : ViewState} → TakesStamps r.volume.geometry → Viewed old new
       → (IsTrue old.base.tells
       → IsEntryBehind (within r) old.image (head_of r r.volume.geometry.lists) e)
       → StampedPartEnds r e old new (Ok None) → (fault : Fault) → IsFalsePosting e fault

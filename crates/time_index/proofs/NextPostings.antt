@@ -1,8 +1,7 @@
 -- The next posting of the time list, by a search for its stamp and one more for this very stamp.
 use Rattle.std.proofs.Common.{◌≡◌, ◌<◌, ◌≤◌, ℕ, Option, Some, None, Ok, Err, sym, ap, ⊎_elim, subst, arith, ◌∙◌}
 use Rattle.std.specs.Prelude.{IsTrue}
-use Rattle.cell_types.specs.Layout.{all_lists}
-use Rattle.cell_types.specs.declared.geometry.TheConstants.{STAMPED_VERSION}
+use Rattle.cell_types.specs.Layout.{TakesStamps, all_lists}
 use Rattle.cell_types.specs.declared.refusal.Fault.{Fault}
 use Rattle.volume_meaning.specs.Blocks.{PostingFields}
 use Rattle.worm_device.specs.Views.{ViewState, Viewed}
@@ -20,7 +19,7 @@ use Rattle.time_index.specs.Postings.{IsNextPosting, IsOfKey, IsTimed, NextPosti
 abbrev times : Reach → ℕ
 times r = r.volume.geometry.lists
 
-module _ (r : Reach) (from to : ℕ) (stamped : r.volume.geometry.version ≡ STAMPED_VERSION) where
+module _ (r : Reach) (from to : ℕ) (stamped : TakesStamps r.volume.geometry) where
   -- it is one of the volume's lists
   less : times r < all_lists r.volume.geometry
   less = omega (arith, stamped)

@@ -4,8 +4,7 @@ use Rattle.std.specs.Global.{Vec}
 use Rattle.std.specs.Prelude.{Contains, IsTrue}
 use Rattle.std.proofs.lemmas.List.Elements.{Contains-push_cases}
 use Rattle.cell_types.specs.Image.{Extends, Image}
-use Rattle.cell_types.specs.Layout.{Layout, list_at, pool_at}
-use Rattle.cell_types.specs.declared.geometry.TheConstants.{STAMPED_VERSION}
+use Rattle.cell_types.specs.Layout.{Layout, TakesStamps, list_at, pool_at}
 use Rattle.cell_types.specs.declared.refusal.Evidence.{Evidence}
 use Rattle.cell_types.specs.declared.refusal.Refusal.{Refusal}
 use Rattle.cell_types.specs.declared.refusal.Refusal.TheVariants as refusals
@@ -94,7 +93,7 @@ module _ (from to : ℕ) (old new : DeviceState) where
   }
 
   -- the settled volume has no stamps
-  pub without_stamps : (r : Ready) → Settles old new (Ok r) → (r.volume.geometry.version ≡ STAMPED_VERSION → ⊥)
+  pub without_stamps : (r : Ready) → Settles old new (Ok r) → (TakesStamps r.volume.geometry → ⊥)
       → SearchesTimes from to old new (Err refusals.NoStamps)
   without_stamps r s other = record {
     called = s.called;
@@ -120,7 +119,7 @@ stamp_by : {cells : ℕ} {image : Image} {n seconds : ℕ} {g : Layout} → (is 
 stamp_by {cells} {image} {n} {seconds} is same = subst (λ (h : Layout). IsStampOf h image n (Some seconds)) same is.stamp
 
 module _ (r : Ready) (from to : ℕ) (old settled new : DeviceState) (s : Settles old settled (Ok r))
-    (stamped : r.volume.geometry.version ≡ STAMPED_VERSION) (seen : Viewed (seen_directly settled 0) (seen_directly new 0))
+    (stamped : TakesStamps r.volume.geometry) (seen : Viewed (seen_directly settled 0) (seen_directly new 0))
   where
     w : HasLooked r old settled new
     w = walked s seen

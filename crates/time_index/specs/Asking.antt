@@ -1,8 +1,7 @@
 -- Whether the documents of the volume that a device holds are stamped, which cell 0 tells.
-use Rattle.std.specs.Prelude.{◌≡◌, ◌<◌, ◌≤◌, ◌+◌, ℕ, Result, Ok, Err, IsTrue}
+use Rattle.std.specs.Prelude.{◌≡◌, ◌≤◌, ◌+◌, ℕ, Result, Ok, Err, IsTrue}
 use Rattle.cell_types.specs.Image.{Image, IsUnchanged}
-use Rattle.cell_types.specs.Layout.{Layout}
-use Rattle.cell_types.specs.declared.geometry.TheConstants.{STAMPED_VERSION}
+use Rattle.cell_types.specs.Layout.{Layout, TakesNoStamps, TakesStamps}
 use Rattle.cell_types.specs.declared.refusal.Refusal.{Refusal}
 use Rattle.cell_types.specs.declared.refusal.Refusal.TheVariants.{DeviceFault, NoStamps, NotAVolume, NotFormatted, WrongSize}
 use Rattle.volume_meaning.specs.Volumes.{IsVolume}
@@ -13,11 +12,11 @@ use Rattle.recovery_engine.specs.Settling.{SettleEnds}
 
 -- a volume stands there whose documents are stamped
 abbrev pub IsOfStamps : ℕ → Image → Type 0
-IsOfStamps cells image = (g : Layout) × IsVolume cells image g × (g.version ≡ STAMPED_VERSION)
+IsOfStamps cells image = (g : Layout) × IsVolume cells image g × TakesStamps g
 
 -- and one whose documents are not
 abbrev pub IsWithoutStamps : ℕ → Image → Type 0
-IsWithoutStamps cells image = (g : Layout) × IsVolume cells image g × (g.version < STAMPED_VERSION)
+IsWithoutStamps cells image = (g : Layout) × IsVolume cells image g × TakesNoStamps g
 
 -- How asking for it may end, and why: where there is no volume, as settling ends for that.
 abbrev pub AskStampsEnd : DeviceState → DeviceState → Result Unit Refusal → Type 0

@@ -1,6 +1,6 @@
 //! The document to which a posting of the time list leads.
 ghost use Rattle.std.specs.Prelude.{◌≡◌, ◌<◌, ◌≤◌, ◌+◌, IfSome, IsTrue, Some, false};
-ghost use Rattle.cell_types.specs.declared.geometry.TheConstants.{STAMPED_VERSION};
+ghost use Rattle.cell_types.specs.Layout.{TakesStamps};
 ghost use Rattle.document_store.specs.Looks.{IsPartOf, IsStated};
 ghost use Rattle.jump_block.specs.Entries.{posting_of};
 ghost use Rattle.jump_index.specs.Searches.{IsListEntry, IsEntryBehind};
@@ -43,7 +43,7 @@ pub(crate) fn match_of<V: View>(
     before: Option<Stamped>,
 ) -> Result<TimeMatch, Refusal>
     requires size { reach.now.volume.geometry.cells ≡ (V.seen view.old).cells }
-    requires stamped { reach.now.volume.geometry.version ≡ STAMPED_VERSION }
+    requires stamped { TakesStamps reach.now.volume.geometry }
     requires entry { IsListEntry (V.seen view.old).cells entry.now }
     requires behind { IsTrue (V.seen view.old).base.tells → IsEntryBehind (within reach.now) (V.seen view.old).image
         (head_of reach.now reach.now.volume.geometry.lists) entry.now }
@@ -60,7 +60,7 @@ pub(crate) fn match_of<V: View>(
 /// Where the document of a posting's slot lies, where the slot is live and has the posting's stamp.
 fn stamped_part<V: View>(view: &mut V, reach: &Reach, entry: &Entry) -> Result<Option<Part>, Fault>
     requires size { reach.now.volume.geometry.cells ≡ (V.seen view.old).cells }
-    requires stamped { reach.now.volume.geometry.version ≡ STAMPED_VERSION }
+    requires stamped { TakesStamps reach.now.volume.geometry }
     ensures viewed { Viewed (V.seen view.old) (V.seen view.new) }
     ensures reads { (V.seen view.new).base.reads ≤ (V.seen view.old).base.reads + 5 }
     ensures ends { StampedPartEnds reach.now entry.now (V.seen view.old) (V.seen view.new) result }

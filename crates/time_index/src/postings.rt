@@ -1,6 +1,6 @@
 //! The postings of the time list, by rising stamp.
 ghost use Rattle.std.specs.Prelude.{◌≡◌, ◌<◌, ◌≤◌, ◌+◌};
-ghost use Rattle.cell_types.specs.declared.geometry.TheConstants.{STAMPED_VERSION};
+ghost use Rattle.cell_types.specs.Layout.{TakesStamps};
 ghost use Rattle.jump_index.specs.Searches.{FindsGeq};
 ghost use Rattle.posting_list.specs.Keeping.{KeepsSearch};
 ghost use Rattle.posting_list.specs.Searches.{head_of, within};
@@ -20,7 +20,7 @@ fn find_time<V: View>(
     seconds: u32,
 ) -> Result<Option<Entry>, Fault>
     requires size { reach.now.volume.geometry.cells ≡ (V.seen view.old).cells }
-    requires stamped { reach.now.volume.geometry.version ≡ STAMPED_VERSION }
+    requires stamped { TakesStamps reach.now.volume.geometry }
     requires kept { KeepsSearch (V.seen view.old) kept.old }
     ensures kept { KeepsSearch (V.seen view.new) kept.new }
     ensures finds { FindsGeq (within reach.now) (head_of reach.now reach.now.volume.geometry.lists) seconds
@@ -41,7 +41,7 @@ pub(crate) fn next_posting<V: View>(
     to: u32,
 ) -> Result<Option<Entry>, Fault>
     requires size { reach.now.volume.geometry.cells ≡ (V.seen view.old).cells }
-    requires stamped { reach.now.volume.geometry.version ≡ STAMPED_VERSION }
+    requires stamped { TakesStamps reach.now.volume.geometry }
     requires kept { KeepsSearch (V.seen view.old) kept.old }
     ensures kept { KeepsSearch (V.seen view.new) kept.new }
     ensures reads { (V.seen view.new).base.reads ≤ (V.seen view.old).base.reads + 8192 }

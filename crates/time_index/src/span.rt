@@ -1,6 +1,6 @@
 //! All documents of a span of time.
 ghost use Rattle.std.specs.Prelude.{◌≡◌, ◌≤◌};
-ghost use Rattle.cell_types.specs.declared.geometry.TheConstants.{STAMPED_VERSION};
+ghost use Rattle.cell_types.specs.Layout.{TakesStamps};
 ghost use Rattle.record_query.specs.Reaching as reaching;
 ghost use Rattle.time_index.specs.Gathering.{GathersTimes, GathersOnDevice, IsBehind};
 ghost use Rattle.time_index.specs.Spans.{FindsBetween, SearchesTimes};
@@ -9,7 +9,7 @@ use crate::found::TimeMatch;
 use crate::matching::{Stamped, match_of};
 use crate::postings::next_posting;
 use crate::stamped::check_stamps;
-use cell_types::{Refusal, STAMPED_VERSION, memory};
+use cell_types::{Refusal, memory};
 use jump_index::{Bounds, KeptSearch};
 use posting_list::Reach;
 use recovery_engine::{Ready, settle};
@@ -58,7 +58,7 @@ fn search<D: Device>(
     ensures { SearchesTimes from to (D.state device.old) (D.state device.new) result }
 {
     let ready = settle(device)?;
-    if ready.volume.geometry.version() != STAMPED_VERSION {
+    if !ready.volume.geometry.is_stamped() {
         // A device that tells its image has the volume that cell 0 stated before.
         return Err(Refusal::NoStamps);
     }
@@ -75,7 +75,7 @@ fn gather_on_device<D: Device>(
 ) -> Result<Vec<TimeMatch>, Refusal>
     requires order { from ≤ to }
     requires size { ready.now.volume.geometry.cells ≡ (D.state device.old).cells }
-    requires stamped { ready.now.volume.geometry.version ≡ STAMPED_VERSION }
+    requires stamped { TakesStamps ready.now.volume.geometry }
     ensures { GathersOnDevice ready.now from to (D.state device.old) (D.state device.new) result }
 {
     gather(alloc, &mut Direct::new(device), &reach_of(ready), from, to)
@@ -105,7 +105,7 @@ fn gather<V: View>(
 ) -> Result<Vec<TimeMatch>, Refusal>
     requires order { from ≤ to }
     requires size { reach.now.volume.geometry.cells ≡ (V.seen view.old).cells }
-    requires stamped { reach.now.volume.geometry.version ≡ STAMPED_VERSION }
+    requires stamped { TakesStamps reach.now.volume.geometry }
     ensures { GathersTimes reach.now from to (V.seen view.old) (V.seen view.new) result }
 {
     let mut kept = KeptSearch::new();

@@ -1,7 +1,7 @@
 //! Whether the documents of the volume on a device are stamped.
 ghost use Rattle.time_index.specs.Asking.{AsksStamps};
 
-use cell_types::{Refusal, STAMPED_VERSION};
+use cell_types::Refusal;
 use commit_record::open;
 use worm_device::{Device, Direct};
 
@@ -10,7 +10,7 @@ pub(crate) fn check_stamps<D: Device>(device: &mut D) -> Result<(), Refusal>
     ensures { AsksStamps (D.state device.old) (D.state device.new) result }
 {
     let volume = open(&mut Direct::new(device))?;
-    if volume.geometry.version() < STAMPED_VERSION {
+    if !volume.geometry.is_stamped() {
         return Err(Refusal::NoStamps);
     }
     Ok(())

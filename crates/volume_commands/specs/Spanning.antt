@@ -2,8 +2,7 @@
 use Rattle.std.specs.Prelude.{◌≡◌, ◌++◌, ℕ, List, codes, Result}
 use Rattle.std.specs.Fmt.{decimal}
 use Rattle.std.specs.Global.{Vec}
-use Rattle.cell_types.specs.Layout.{Layout}
-use Rattle.cell_types.specs.declared.geometry.TheConstants.{STAMPED_VERSION}
+use Rattle.cell_types.specs.Layout.{Layout, TakesStamps}
 use Rattle.cell_types.specs.declared.refusal.Refusal.{Refusal}
 use Rattle.worm_device.specs.Counts.{IsStill}
 use Rattle.command_laws.specs.WholeLogs.{HasSteadyVolume}
@@ -44,6 +43,6 @@ pub record DoesBetween (from to : ℕ) (old new : Ports) (result : Result Unit R
 
 -- all is as the command wants it: the volume's documents are stamped
 pub record IsReadyBetween (g : Layout) (old new : Ports) : Type 0 where
-  pub stamped : g.version ≡ STAMPED_VERSION
+  pub stamped : TakesStamps g
   pub log : HasSteadyVolume g old.device new.device
   pub no_sink_fault : IsStill old.sink.faults new.sink.faults

@@ -2,8 +2,7 @@
 use Rattle.std.proofs.Common.{◌≡◌, ◌≤◌, ◌<◌, ℕ, suc, List, [], ◌∷◌, ◌++◌, Option, Some, None, inl, inr, ⊎_elim, refl, sym, subst, arith, append-nil}
 use Rattle.std.specs.Prelude.{Contains}
 use Rattle.cell_types.specs.Image.{Between, Extends, Image}
-use Rattle.cell_types.specs.Layout.{Layout}
-use Rattle.cell_types.specs.declared.geometry.TheConstants.{STAMPED_VERSION}
+use Rattle.cell_types.specs.Layout.{Layout, TakesStamps}
 use Rattle.volume_meaning.specs.Documents.{AreDocuments, Document, IsDocument}
 use Rattle.volume_meaning.specs.Slots.{HasStamp, IsStampOf, IsStamped}
 use Rattle.volume_meaning.specs.Volumes.{IsVolume}
@@ -50,7 +49,7 @@ module _ {cells : ℕ} {image after : Image} {h : Layout} (volume : IsVolume cel
       let one : stands.layout ≡ h = one_layout {cells = cells} {more = cells} stands.layout h stands.volume
       (volume_on (after_keeps is) volume) in
       let stamped : IsStamped after d.slot = stands.done.commits.stamped
-      (subst (λ (k : Layout). k.version ≡ STAMPED_VERSION) (sym one) of_top.0) in
+      (subst TakesStamps (sym one) of_top.0) in
       let there : HasStamp image d.slot stamped.seconds = record {
         cell = stamped.stamp.cell;
         stands = spare_stood is d.slot stamped.stamp.cell h

@@ -3,8 +3,7 @@
 use Rattle.std.proofs.Common.{◌≡◌, ◌≤◌, ◌<◌, ◌+◌, ◌∙◌, ℕ, zero, suc, List, [], ◌∷◌, Option, Some, None, Err, refl, sym, ap, subst, arith, length}
 use Rattle.std.specs.Prelude.{Contains, IsTrue, slice_get}
 use Rattle.cell_types.specs.Image.{Image}
-use Rattle.cell_types.specs.Layout.{Layout, done_at, spare_at}
-use Rattle.cell_types.specs.declared.geometry.TheConstants.{STAMPED_VERSION}
+use Rattle.cell_types.specs.Layout.{Layout, TakesNoStamps, done_at, spare_at}
 use Rattle.cell_types.specs.declared.refusal.Refusal.{Refusal}
 use Rattle.cell_types.specs.declared.refusal.Refusal.TheVariants as refusals
 use Rattle.volume_meaning.specs.Documents.{AreDocuments, Document, IsDocument, Rise, Stands}
@@ -208,7 +207,7 @@ module _ {more : ℕ} {from : Image} {u v : DeviceState} (g h : Layout) (from_vo
 
       by_end : (refusal : Refusal) → CheckStampEnds unfit.ready stamp (Err refusal) → ⊥
       by_end refusals.StampNeeded ends =
-          let none : g.version < STAMPED_VERSION = subst (λ (s : Option ℕ). IsStampOf g from d.slot s) ends.1 stamped in
+          let none : TakesNoStamps g = subst (λ (s : Option ℕ). IsStampOf g from d.slot s) ends.1 stamped in
           omega (arith, version, ends.0, none)
       by_end refusals.StampUnused ends =
           omega (arith, version, ends.0, (stamps.stands_given g from d.slot stamp ends.1.0 stamped ends.1.1).0)

@@ -2,9 +2,8 @@
 use Rattle.std.proofs.Common.{◌≡◌, ◌∙◌, ℕ, List, None, Result, Ok, Err, inr, sym, ap, subst, arith}
 use Rattle.std.specs.Prelude.{IsTrue}
 use Rattle.cell_types.specs.Image.{Image}
-use Rattle.cell_types.specs.Layout.{Layout, outcome_at}
+use Rattle.cell_types.specs.Layout.{Layout, TakesStamps, outcome_at}
 use Rattle.cell_types.specs.Refusals.{refusal_of_fault}
-use Rattle.cell_types.specs.declared.geometry.TheConstants.{STAMPED_VERSION}
 use Rattle.cell_types.specs.declared.refusal.Evidence.{Evidence}
 use Rattle.cell_types.specs.declared.refusal.Fault.{Fault}
 use Rattle.cell_types.specs.declared.refusal.Fault.TheVariants as faults
@@ -47,7 +46,7 @@ module _ (g : Layout) (n : ℕ) where
   fails_later before after refusal fails = absurd fails
 
   -- a done slot of a volume of stamped documents has a stamp
-  pub has_stamp : {old new : ViewState} → Viewed old new → g.version ≡ STAMPED_VERSION
+  pub has_stamp : {old new : ViewState} → Viewed old new → TakesStamps g
       → (IsTrue old.base.tells → IsDoneSlot g old.image n) → (IsTrue old.base.tells → IsStampOrNone new.image n None)
       → IsTrue old.base.tells → ⊥
   has_stamp v stamped done none tells =

@@ -4,7 +4,7 @@ ghost use Rattle.document_store.specs.Looks.{HasPart};
 ghost use Rattle.worm_device.specs.Views.{Viewed, seen_directly};
 ghost use Rattle.volume_copy.specs.Reading.{CopyReadEnds, ReadsStored, StampReadEnds};
 
-use cell_types::{Refusal, STAMPED_VERSION, Volume};
+use cell_types::{Refusal, Volume};
 use commit_record::stamp_of;
 use document_store::{BodyFault, Part, Text, identifier_of_head, name_commit, take_part};
 use host_ports::Gathered;
@@ -77,7 +77,7 @@ fn stamp_for<V: View>(view: &mut V, volume: &Volume, part: &Part) -> Result<Opti
     ensures viewed { Viewed (V.seen view.old) (V.seen view.new) }
     ensures ends { StampReadEnds volume.now.geometry part.now.slot (V.seen view.old) (V.seen view.new) result }
 {
-    if volume.geometry.version() != STAMPED_VERSION {
+    if !volume.geometry.is_stamped() {
         return Ok(None);
     }
     let Ok(found) = stamp_of(view, volume, part.slot) else {

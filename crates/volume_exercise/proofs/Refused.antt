@@ -3,8 +3,7 @@ use Rattle.std.proofs.Common.{◌≡◌, ◌≤◌, ◌<◌, ◌+◌, ◌*◌, �
 use Rattle.std.specs.Prelude.{Contains}
 use Rattle.std.proofs.lemmas.Option.{none-some}
 use Rattle.cell_types.specs.Image.{Image}
-use Rattle.cell_types.specs.Layout.{Layout}
-use Rattle.cell_types.specs.declared.geometry.TheConstants.{STAMPED_VERSION}
+use Rattle.cell_types.specs.Layout.{Layout, TakesNoStamps}
 use Rattle.cell_types.specs.declared.refusal.Evidence.{Evidence}
 use Rattle.cell_types.specs.declared.refusal.Refusal.{Refusal}
 use Rattle.cell_types.specs.declared.refusal.Refusal.TheVariants as refusals
@@ -55,7 +54,7 @@ number_of k (e ∷ ds) are d (suc p, low, is) =
 module _ (n k : ℕ) (g : Layout) (s t : DeviceState) (begins : BeginsSteady s t) (device : IsDevice s)
     (device_new : IsDevice t) (called : Called s t) (no_fault : IsStill s.faults t.faults) (stocked : IsStocked g k s)
     (less : k < n) (most : n ≤ 2000) (slots : g.slots ≡ n) (lists : g.lists ≡ 16) (cells : g.cells ≡ 8192 + 5300 * n)
-    (rule : rule_of g.version ≡ Ascii) (unstamped : g.version < STAMPED_VERSION) (documents : List Document) (are : AreFrom 0 documents)
+    (rule : rule_of g.version ≡ Ascii) (unstamped : TakesNoStamps g) (documents : List Document) (are : AreFrom 0 documents)
     (many : length documents ≡ k) (held : Held s.cells s.image documents)
     (no_alarm : (e : Evidence) → IngestEnds (identifier_of k) None (body_of k) s t (Err (refusals.Tampered e)) → ⊥) where
   abbrev id : List ℕ

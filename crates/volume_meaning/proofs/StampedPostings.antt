@@ -2,8 +2,7 @@
 use Rattle.std.proofs.Common.{◌≡◌, ◌<◌, ◌⊎◌, ⊎_elim, inl, inr, ℕ, List, [], ◌∷◌, ◌++◌, length, Some, None, zero, suc, refl, ap, sym, subst, ◌∙◌, arith}
 use Rattle.std.specs.Prelude.{slice_get}
 use Rattle.std.proofs.lemmas.Option.{none-some, same_Some, slice_get_within}
-use Rattle.cell_types.specs.Layout.{Layout, all_lists}
-use Rattle.cell_types.specs.declared.geometry.TheConstants.{STAMPED_VERSION}
+use Rattle.cell_types.specs.Layout.{Layout, TakesStamps, all_lists}
 use Rattle.volume_meaning.specs.Blocks.{PostingFields}
 use Rattle.volume_meaning.specs.OnePostings.{StampsAddOne, time_entry}
 use Rattle.volume_meaning.specs.Postings.{ComesBefore, ListedPosting, ArePostings, IsPostingOf, IsWordPosting, time_posting}
@@ -39,7 +38,7 @@ stamp_same : (a b : ℕ) → Some a ≡ Some b → a ≡ b
 stamp_same a b e = cc
 
 module _ (g : Layout) (body : List ℕ) (n seconds : ℕ) (rows : List ListedPosting)
-    (version : g.version ≡ STAMPED_VERSION)
+    (version : TakesStamps g)
     (are : ArePostings g None body n rows) where
   abbrev last : ListedPosting
   last = time_entry g n seconds

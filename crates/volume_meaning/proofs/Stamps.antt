@@ -1,8 +1,8 @@
 -- A slot has one stamp.
-use Rattle.std.proofs.Common.{◌≡◌, ◌<◌, ℕ, Option, Some, None, refl, ap, subst, arith, ⊎_elim}
+use Rattle.std.proofs.Common.{◌≡◌, ℕ, Option, Some, None, refl, ap, subst, arith, ⊎_elim}
 use Rattle.std.proofs.lemmas.Bool.{cases_lt}
 use Rattle.cell_types.specs.Image.{Image, Extends}
-use Rattle.cell_types.specs.Layout.{Layout, IsLayout, spare_at}
+use Rattle.cell_types.specs.Layout.{Layout, IsLayout, TakesNoStamps, TakesStamps, spare_at}
 use Rattle.cell_types.specs.declared.geometry.TheConstants.{STAMPED_VERSION}
 use Rattle.cell_types.specs.declared.record_cell.RecordCell.TheVariants.{Stamp}
 use Rattle.volume_meaning.specs.Laws.{StampsAreOne}
@@ -26,8 +26,8 @@ one g image n (Some a) (Some b) p q = ap Some (one_stamp image n a b p.1 q.1)
 pub some_stamp : {g : Layout} {image : Image} {n start length bytes journal : ℕ} → IsLayout g
     → Commits g image n start length bytes journal → (stamp : Option ℕ) × IsStampOf g image n stamp
 some_stamp {g} is c = ⊎_elim
-    (λ (less : g.version < STAMPED_VERSION). (None, less))
-    (λ le. let e : g.version ≡ STAMPED_VERSION = omega (arith, is.version, le) in
+    (λ (less : TakesNoStamps g). (None, less))
+    (λ le. let e : TakesStamps g = omega (arith, is.version, le) in
     (Some (c.stamped e).seconds, (e, (c.stamped e).stamp)))
     (cases_lt g.version STAMPED_VERSION)
 
@@ -42,13 +42,13 @@ stamps_one = record { one = one; some = λ g image n start length bytes journal 
 
 -- on a volume of stamped documents the slot of a stamp has one
 pub has_stamp : (g : Layout) (image : Image) (n : ℕ) (stamp : Option ℕ) → IsStampOf g image n stamp
-    → g.version ≡ STAMPED_VERSION → IsStamped image n
+    → TakesStamps g → IsStamped image n
 has_stamp g image n None is version = absurd (omega (arith, is, version))
 has_stamp g image n (Some s) is version = record { seconds = s; stamp = is.1 }
 
 -- a stamp that is given stands in the spare cell
 pub stands_given : (g : Layout) (image : Image) (n : ℕ) (stamp : Option ℕ) (seconds : ℕ) → IsStampOf g image n stamp
-    → stamp ≡ Some seconds → (g.version ≡ STAMPED_VERSION) × HasStamp image n seconds
+    → stamp ≡ Some seconds → TakesStamps g × HasStamp image n seconds
 stands_given g image n None seconds is given = absurd (none_given seconds given)
   where
     none_given : (s : ℕ) → None ≡ Some s → ⊥

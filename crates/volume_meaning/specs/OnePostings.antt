@@ -1,7 +1,6 @@
 -- Laws of the postings of a document.
 use Rattle.std.specs.Prelude.{◌≡◌, ◌<◌, ◌≤◌, ◌%◌, ℕ, List, Option, Some, None, [], ◌∷◌, ◌++◌}
-use Rattle.cell_types.specs.Layout.{Layout}
-use Rattle.cell_types.specs.declared.geometry.TheConstants.{STAMPED_VERSION}
+use Rattle.cell_types.specs.Layout.{Layout, TakesStamps}
 use Rattle.volume_meaning.specs.Blocks.{PostingFields}
 use Rattle.volume_meaning.specs.Postings.{ListedPosting, ArePostings, HasPostings, IsPostingOf, time_posting}
 
@@ -24,5 +23,5 @@ time_entry g n seconds = record { list = g.lists; posting = time_posting n secon
 -- on a volume of stamped documents a stamp adds one posting, behind those of the words
 abbrev pub StampsAddOne : Type 0
 StampsAddOne =
-    (g : Layout) (body : List ℕ) (n seconds : ℕ) (rows : List ListedPosting) → g.version ≡ STAMPED_VERSION
+    (g : Layout) (body : List ℕ) (n seconds : ℕ) (rows : List ListedPosting) → TakesStamps g
     → ArePostings g None body n rows → ArePostings g (Some seconds) body n (rows ++ time_entry g n seconds ∷ [])

@@ -6,9 +6,8 @@
 -- writes can say what it saw. A state in one image is that state where both are this image.
 use Rattle.std.specs.Prelude.{◌≡◌, ◌<◌, ◌≤◌, ◌+◌, ◌/◌, ◌⊎◌, ℕ, Option, Some, None}
 use Rattle.cell_types.specs.Image.{Image}
-use Rattle.cell_types.specs.Layout.{Layout, reserve_at, outcome_at, done_at, spare_at, pool_at}
+use Rattle.cell_types.specs.Layout.{Layout, TakesNoStamps, TakesStamps, reserve_at, outcome_at, done_at, spare_at, pool_at}
 use Rattle.cell_types.specs.declared.record_cell.RecordCell.TheVariants.{Reserve, Commit, Abandon, Done, Stamp}
-use Rattle.cell_types.specs.declared.geometry.TheConstants.{STAMPED_VERSION}
 use Rattle.volume_meaning.specs.Volumes.{Holds, IsWritten}
 
 -- how many content cells so many stored bytes take: 15 bytes in each, rounded up
@@ -33,13 +32,13 @@ HasStamp image n seconds = Holds image (spare_at n) (Stamp seconds)
 
 -- the stamp of slot n: on a volume of stamped documents that of its spare cell, and none on another
 abbrev pub IsStampOf : Layout → Image → ℕ → Option ℕ → Type 0
-IsStampOf g image n None = g.version < STAMPED_VERSION
-IsStampOf g image n (Some seconds) = (g.version ≡ STAMPED_VERSION) × HasStamp image n seconds
+IsStampOf g image n None = TakesNoStamps g
+IsStampOf g image n (Some seconds) = TakesStamps g × HasStamp image n seconds
 
 -- a stamp is given exactly on a volume of stamped documents
 abbrev pub IsStampFor : Layout → Option ℕ → Type 0
-IsStampFor g None = g.version < STAMPED_VERSION
-IsStampFor g (Some seconds) = g.version ≡ STAMPED_VERSION
+IsStampFor g None = TakesNoStamps g
+IsStampFor g (Some seconds) = TakesStamps g
 
 -- slot n has a stamp
 pub record IsStamped (image : Image) (n : ℕ) : Type 0 where
@@ -52,7 +51,7 @@ pub record Commits (g : Layout) (image : Image) (n start length bytes journal : 
   pub reserves : Reserves g image n start length
   pub outcome : Holds image (outcome_at n) (Commit bytes journal)
   pub fits : cells_for bytes + journal ≤ length
-  pub stamped : g.version ≡ STAMPED_VERSION → IsStamped image n
+  pub stamped : TakesStamps g → IsStamped image n
 
 -- nothing has come of slot n
 pub record IsUnused (g : Layout) (before : Image) (n : ℕ) : Type 0 where

@@ -1,12 +1,12 @@
 //! What bytes mean, and where the parts of a volume lie.
-ghost use Rattle.cell_types.specs.declared.geometry.TheConstants.{FIRST_VERSION, NEWEST_VERSION, STAMPED_VERSION};
+ghost use Rattle.cell_types.specs.declared.geometry.TheConstants.{FIRST_VERSION, NEWEST_VERSION};
 
 use crate::acts::{Form, Question};
 use crate::answers::{Answer, hexadecimal};
 use crate::parts::cell_of;
 use cell_types::{
-    Cell, FIRST_VERSION, Geometry, NEWEST_VERSION, RecordCell, STAMPED_VERSION, address_of,
-    content, content_of, decode, encode, is_well_formed,
+    Cell, FIRST_VERSION, Geometry, NEWEST_VERSION, RecordCell, address_of, content, content_of,
+    decode, encode, is_well_formed,
 };
 use std::alloc::{AllocError, Global};
 
@@ -141,7 +141,7 @@ fn start_of_list(list: u16, geometry: &Geometry) -> Answer {
     if list < geometry.lists() {
         return Answer::Number(u64::from(geometry.list_at(list)));
     }
-    if list > geometry.lists() || geometry.version() != STAMPED_VERSION {
+    if list > geometry.lists() || !geometry.is_stamped() {
         return Answer::Nothing;
     }
     Answer::Number(u64::from(geometry.time_at()))

@@ -31,4 +31,4 @@ returns c =
     (subst (λ (m : ℕ). IsRecordCell (Done m) (done_at n) d.cell) c.if-named-slot.false
     (subst (λ (k : ℕ). IsRecordCell (Done c.in_ok-named.named) k d.cell) c.done_at.ensures.at d.of))
     pool.0 pool.1 (c.lies_in_pool.ensures.device c.if-not-lies_in_pool.false)
-    (c.fits_into.ensures.0 c.if-not-fits_into.false) (c.is_stamped.ensures c.if-not-is_stamped.false)
+    (c.fits_into.ensures.0 c.if-not-fits_into.false) (c.has_stamp_in_row.ensures c.if-not-has_stamp_in_row.false)

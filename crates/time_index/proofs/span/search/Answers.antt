@@ -1,4 +1,5 @@
 -- Settling, and then the time list.
+use Rattle.std.proofs.lemmas.Bool.{iff_false}
 use Rattle.cell_types.proofs.Passed.{handed}
 use Rattle.time_index.proofs.Searched.{settled_search, unsettled, without_stamps}
 use Rattle.time_index.proofs.span.search.Goals as goal
@@ -12,15 +13,15 @@ returns-in_err-ready g c =
     c.in_err-ready.ensures)
 
 -- what was settled has no stamps
-pub returns-then-version-ne-STAMPED_VERSION : goal.returns-then-version-ne-STAMPED_VERSION
-returns-then-version-ne-STAMPED_VERSION g c =
+pub returns-then-not-is_stamped : goal.returns-then-not-is_stamped
+returns-then-not-is_stamped g c =
     without_stamps c.args.from c.args.to (g.D.Device.state c.args.device.now) (g.D.Device.state c.settle.new.device)
-    c.in_ok-ready.ready c.in_ok-ready.ensures (rw c.version.ensures.version at c.if-version-ne-STAMPED_VERSION.true)
+    c.in_ok-ready.ready c.in_ok-ready.ensures (iff_false c.is_stamped.ensures.stamped c.if-not-is_stamped.true)
 
 -- the time list was searched
 pub returns : goal.returns
 returns g c =
     settled_search c.in_ok-ready.ready c.args.from c.args.to (g.D.Device.state c.args.device.now)
     (g.D.Device.state c.settle.new.device) (g.D.Device.state c.gather_on_device.new.device) c.in_ok-ready.ensures
-    (rw c.version.ensures.version at c.if-version-ne-STAMPED_VERSION.false) c.gather_on_device.ensures.viewed
+    (c.is_stamped.ensures.stamped.0 c.if-not-is_stamped.false) c.gather_on_device.ensures.viewed
     c.gather_on_device.result c.gather_on_device.ensures

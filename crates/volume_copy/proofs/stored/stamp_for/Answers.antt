@@ -1,5 +1,4 @@
 -- A done slot has a stamp where documents are stamped.
-use Rattle.std.proofs.Common.{sym, ◌∙◌}
 use Rattle.document_store.proofs.Holding.{part_is_done}
 use Rattle.volume_copy.proofs.Slots.{has_stamp, never_named}
 use Rattle.volume_copy.proofs.stored.stamp_for.Goals as goal
@@ -12,5 +11,5 @@ returns-in_default-found-clause-ends g c =
     (rw c.name_commit.ensures
     (never_named c.args.volume.now.geometry part.slot (g.V.View.seen c.args.view.now) (g.V.View.seen c.stamp_of.new.view)
     part (has_stamp c.args.volume.now.geometry part.slot c.stamp_of.ensures.viewed
-    (sym c.version.ensures.version ∙ c.if-version-ne-STAMPED_VERSION.false)
+    (c.is_stamped.ensures.stamped.0 c.if-not-is_stamped.false)
     (λ tells. part_is_done (c.requires.part.is tells)) ends.1)))

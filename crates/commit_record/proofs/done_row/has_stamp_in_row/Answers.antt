@@ -1,17 +1,17 @@
 -- The spare cell holds a stamp.
-use Rattle.std.proofs.Common.{◌≡◌, ◌∙◌, ℕ, List, Option, Some, ap, arith, refl, subst, sym}
+use Rattle.std.proofs.Common.{◌∙◌, ℕ, List, Option, Some, ap, arith, refl, subst, sym}
 use Rattle.std.proofs.lemmas.Option.{slice_get-get_or}
 use Rattle.cell_types.specs.Records.{IsRecordCell}
 use Rattle.cell_types.specs.declared.record_cell.RecordCell.TheVariants.{Stamp}
 use Rattle.worm_device.specs.declared.looks.Found.TheVariants.{Record}
-use Rattle.commit_record.proofs.done_row.is_stamped.Goals as goal
+use Rattle.commit_record.proofs.done_row.has_stamp_in_row.Goals as goal
 
 pub returns : goal.returns
 returns c =
     let row = c.args.row.now in
     let seconds = c.in-Some._seconds in
     let h = c.in-Some.ensures in
-    let stamped : c.args.geometry.now.version ≡ 3 = sym c.version.ensures.version ∙ c.if-version-ne-STAMPED_VERSION.false in
+    let stamped = c.is_stamped.ensures.stamped.0 c.if-not-is_stamped.false in
     λ _. record {
       stamp = Some (Record h.cell (Stamp seconds));
       spare = (
