@@ -3,7 +3,7 @@ ghost use Rattle.std.specs.Prelude.{[], ⊤};
 
 use cell_types::{Fault, MAX_SLOTS};
 use std::test::Fail;
-use zigzag_join::{Lists, all_common, next_common};
+use zigzag_join::{Lists, next_common};
 
 /// Two lists of slots in rising order, and how often they were asked. They owe nothing and vouch for everything, since
 /// each answer is compared with what was written down by hand.
@@ -83,13 +83,14 @@ impl<'a> Lists for TwoLists<'a> {
 }
 
 #[test]
-fn the_slots_of_two_lists(rt: HostRuntime) -> Result<(), Fail> {
+fn joins_from_behind_each_answer_gather_all_common_slots(rt: HostRuntime) -> Result<(), Fail> {
     let mut lists = TwoLists::new(&[1, 4, 7, 9], &[2, 4, 9], None);
-    assert_eq!(rt; next_common(&mut lists, 0), Ok(Some(4)));
-    assert_eq!(rt; next_common(&mut lists, 5), Ok(Some(9)));
-    assert_eq!(rt; next_common(&mut lists, 10), Ok(None));
-    let all = all_common(rt.alloc(), &mut lists)?;
-    assert_eq!(rt; all.as_slice(), [4, 9].as_slice());
+    for (from, slot) in [(0, Some(4)), (4 + 1, Some(9)), (9 + 1, None)] {
+        assert_eq!(rt; next_common(&mut lists, from), Ok(slot));
+    }
+    // For each of the three.
+    assert_eq!(rt; lists.next_asks, 4 + 3 + 1);
+    assert_eq!(rt; lists.has_asks, 2 + 2);
     Ok(())
 }
 
@@ -128,16 +129,5 @@ fn a_list_of_one_slot_lets_both_be_asked_once_whether_they_have_it(
     assert_eq!(rt; next_common(&mut lists, 0), Ok(Some(5)));
     assert_eq!(rt; lists.next_asks, 3);
     assert_eq!(rt; lists.has_asks, 2);
-    Ok(())
-}
-
-#[test]
-fn gathering_asks_as_its_joins_do(rt: HostRuntime) -> Result<(), Fail> {
-    let mut lists = TwoLists::new(&[1, 4, 7, 9], &[2, 4, 9], None);
-    let all = all_common(rt.alloc(), &mut lists)?;
-    assert_eq!(rt; all.len(), 2);
-    // From 0, from 5 and from 10.
-    assert_eq!(rt; lists.next_asks, 4 + 3 + 1);
-    assert_eq!(rt; lists.has_asks, 2 + 2);
     Ok(())
 }

@@ -1,16 +1,18 @@
 -- What the join of the lists of terms answers.
-use Rattle.std.specs.Prelude.{◌≤◌, ◌+◌, ◌*◌, ℕ, List, length, map, Contains, Option, Result, Ok, Err}
+use Rattle.std.specs.Prelude.{◌≤◌, ◌+◌, ◌*◌, ℕ, List, length, map, Contains, Option, Result, Ok, Err, ⊤}
 use Rattle.std.specs.Global.{Vec}
 use Rattle.cell_types.specs.Layout.{Layout}
 use Rattle.cell_types.specs.declared.geometry.TheConstants.{MAX_SLOTS}
 use Rattle.cell_types.specs.declared.refusal.Fault.{Fault}
+use Rattle.cell_types.specs.declared.refusal.Fault.TheVariants as faults
 use Rattle.cell_types.specs.declared.refusal.Refusal.{Refusal}
+use Rattle.cell_types.specs.declared.refusal.Refusal.TheVariants.{DeviceFault, NoMemory, Tampered}
 use Rattle.worm_device.specs.Counts.{IsStill}
 use Rattle.worm_device.specs.Views.{ViewState}
 use Rattle.zigzag_join.specs.Counts.{GatherCosts, HaveAllSlots, JoinCosts}
-use Rattle.zigzag_join.specs.Gathering.{GatherEnds, Gathers}
+use Rattle.zigzag_join.specs.Gathering.{Gathers}
 use Rattle.zigzag_join.specs.Joins.{JoinEnds}
-use Rattle.zigzag_join.specs.Lists.{ListsState}
+use Rattle.zigzag_join.specs.Lists.{ListsFaultEnds, ListsState}
 use Rattle.document_store.specs.Looks.{HasPart}
 use Rattle.document_store.specs.declared.part.Part.{Part}
 use Rattle.posting_list.specs.States.{counted_lists, lists_over}
@@ -39,10 +41,13 @@ slots_of parts = map (λ (part : Part). part.slot) parts
 abbrev pub HaveParts : Layout → ViewState → List Part → Type 0
 HaveParts g s parts = (part : Part) → Contains parts part → HasPart g s part
 
--- How gathering slots, each by where its document lies, may end.
+-- how gathering slots, each by where its document lies, may end, and why
 abbrev pub GatherPartsEnds : Layout → ListsState → ListsState → Result (Vec Part) Refusal → Type 0
 GatherPartsEnds g old new (Ok parts) = Gathers old new (slots_of parts.items) × HaveParts g new.view parts.items
-GatherPartsEnds g old new (Err refusal) = GatherEnds old new (Err refusal)
+GatherPartsEnds g old new (Err (Tampered e)) = ListsFaultEnds old new (faults.Tampered e)
+GatherPartsEnds g old new (Err DeviceFault) = ListsFaultEnds old new faults.Failed
+GatherPartsEnds g old new (Err NoMemory) = ⊤
+GatherPartsEnds g old new (Err refusal) = ⊥
 
 -- gathering all that these terms have in common may end so
 pub record TermsGather (r : Reach) (terms : List SoughtTerm) (old new : ViewState)

@@ -1,12 +1,8 @@
--- What gathering all slots that lists have in common answers.
-use Rattle.std.specs.Prelude.{◌≡◌, ◌<◌, ℕ, List, length, slice_index, Result, Ok, Err, ⊤}
-use Rattle.std.specs.Global.{Vec}
+-- All slots that lists have in common, as joins one after another gather them.
+use Rattle.std.specs.Prelude.{◌≡◌, ◌<◌, ℕ, List, length, slice_index}
 use Rattle.cell_types.specs.declared.geometry.TheConstants.{MAX_SLOTS}
-use Rattle.cell_types.specs.declared.refusal.Fault.TheVariants as faults
-use Rattle.cell_types.specs.declared.refusal.Refusal.{Refusal}
-use Rattle.cell_types.specs.declared.refusal.Refusal.TheVariants.{DeviceFault, NoMemory, Tampered}
 use Rattle.zigzag_join.specs.Joins.{AllOwe, AllVouch}
-use Rattle.zigzag_join.specs.Lists.{ListsFaultEnds, ListsState}
+use Rattle.zigzag_join.specs.Lists.{ListsState}
 
 -- the slot is one of these
 pub record IsAmongSlots (slots : List ℕ) (slot : ℕ) : Type 0 where
@@ -25,11 +21,3 @@ pub record Gathers (old new : ListsState) (slots : List ℕ) : Type 0 where
   pub vouched : (i : ℕ) → i < length slots → AllVouch new (slice_index slots i)
   pub live : (i : ℕ) → i < length slots → new.live (slice_index slots i)
   pub rise : GatheredRise slots
-
--- how gathering them may end, and why
-abbrev pub GatherEnds : ListsState → ListsState → Result (Vec ℕ) Refusal → Type 0
-GatherEnds old new (Ok slots) = Gathers old new slots.items
-GatherEnds old new (Err (Tampered e)) = ListsFaultEnds old new (faults.Tampered e)
-GatherEnds old new (Err DeviceFault) = ListsFaultEnds old new faults.Failed
-GatherEnds old new (Err NoMemory) = ⊤
-GatherEnds old new (Err refusal) = ⊥

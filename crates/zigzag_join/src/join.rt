@@ -34,7 +34,7 @@ pub fn next_common<Q: Lists>(lists: &mut Q, from: u32) -> Result<Option<u32>, Fa
         slot = next.slot;
         which = turn_after(which, count);
         if agreed == count {
-            if all_agree(lists, count, slot, vouched)? {
+            if all_have(lists, count, slot, vouched)? {
                 return Ok(Some(slot));
             }
             // Some list need not have the slot, so not all of them do.
@@ -72,7 +72,7 @@ fn turn_after(which: u32, count: u32) -> u32
 }
 
 /// Whether all lists have the slot that they have come to. They are not asked where each of them vouches for it.
-fn all_agree<Q: Lists>(lists: &mut Q, count: u32, slot: u32, vouched: bool) -> Result<bool, Fault>
+fn all_have<Q: Lists>(lists: &mut Q, count: u32, slot: u32, vouched: bool) -> Result<bool, Fault>
     requires count { count ≡ (Q.state lists.old).lists }
     requires slot { slot < MAX_SLOTS }
     requires vouched { IsTrue vouched → AllVouch (Q.state lists.old) slot }
@@ -85,19 +85,6 @@ fn all_agree<Q: Lists>(lists: &mut Q, count: u32, slot: u32, vouched: bool) -> R
     if vouched {
         return Ok(true);
     }
-    all_have(lists, count, slot)
-}
-
-/// Whether all lists have the slot, each of which is asked.
-fn all_have<Q: Lists>(lists: &mut Q, count: u32, slot: u32) -> Result<bool, Fault>
-    requires count { count ≡ (Q.state lists.old).lists }
-    requires slot { slot < MAX_SLOTS }
-    ensures kept { Keeps (Q.state lists.old) (Q.state lists.new) }
-    ensures next_asks { (Q.state lists.new).next_asks ≤ (Q.state lists.old).next_asks }
-    ensures has_asks { (Q.state lists.new).has_asks ≤ (Q.state lists.old).has_asks + count }
-    ensures knows { KnowsOn (Q.knows lists.old) (Q.knows lists.new) }
-    ensures ends { AllHaveEnds slot (Q.state lists.old) (Q.state lists.new) result }
-{
     for which in 0..count {
         if !lists.has(which, slot)? {
             return Ok(false);

@@ -21,20 +21,19 @@
 //! the end where there is none. Then the join asks at most `count * (m + 1)` times for a next slot, and at most
 //! `count * m` times whether a list has one, unless somebody else writes meanwhile. Asking for the latter as soon as a
 //! list comes to a slot would break that: with list 0: 1 5 and list 1: 5 it is asked of 1 too, three times in all, and
-//! list 1 has but one slot. Gathering all common slots asks at most `count * (2 * m + 1)` times for a next slot and
-//! `count * m` times whether a list has one, where m are all slots of any one list.
+//! list 1 has but one slot. Joins one after another, each from behind the answer before, gather all common slots: they ask
+//! at most `count * (2 * m + 1)` times for a next slot and `count * m` times whether a list has one, where m are all slots
+//! of any one list.
 //! What an ask may read at most the lists say themselves, a number for each kind of ask: and the asks of a join pay for
 //! all that it reads.
 //!
 //! The lists are read through a view, and a join only reads it. Stands on `cell_types` and on the views of
 //! `worm_device`. Begin with `lists.rt`; `specs/Joins.antt` says what an answer means, `specs/Counts.antt` what it
-//! costs, and `gather.rt` asks for one common slot after another.
+//! costs, and `specs/Gathering.antt` what all common slots are.
 #![tactic(auto)]
 
-mod gather;
 mod join;
 mod lists;
 
-pub use gather::all_common;
 pub use join::next_common;
 pub use lists::{Landing, Lists};

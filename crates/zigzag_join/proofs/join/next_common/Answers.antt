@@ -30,8 +30,8 @@ returns-in_err-next-clause-costs g c =
     c.in_err-next.ensures.kept c.in_err-next.ensures.asks.0 (omega (arith, c.in_err-next.ensures.asks.1)))
 
 -- those that have come to the slot, which are all, are not asked where each vouches for it
-pub all_agree-requires-clause-vouched : goal.all_agree-requires-clause-vouched
-all_agree-requires-clause-vouched g c = λ yes.
+pub all_have-requires-clause-vouched : goal.all_have-requires-clause-vouched
+all_have-requires-clause-vouched g c = λ yes.
     let old = g.Q.Lists.state c.args.lists.now in
     let now = g.Q.Lists.state c.loop-slot.lists in
     let mid = g.Q.Lists.state c.land.new.self in
@@ -68,16 +68,16 @@ returns-then-branch-clause-costs g c =
     c.in_ok-next.ensures.ends).0
     (subst (λ (k : ℕ). IsTurnAfter k c.loop-slot.which c.turn_after-which.result) c.loop-slot.invariant.count
     c.turn_after-which.ensures) c.agreed_at-agreed.ensures in
-    found_costs old mid (g.Q.Lists.state c.all_agree.new.lists) c.args.from c.turn_after-which.result
-    c.agreed_at-agreed.result c.in-Some.next.slot turn c.in_ok-all_agree.ensures.kept
-    (c.if-agreed-count.true ∙ c.loop-slot.invariant.count) c.in_ok-all_agree.ensures.next_asks
-    (omega (arith, c.in_ok-all_agree.ensures.has_asks, c.loop-slot.invariant.count))
+    found_costs old mid (g.Q.Lists.state c.all_have.new.lists) c.args.from c.turn_after-which.result
+    c.agreed_at-agreed.result c.in-Some.next.slot turn c.in_ok-all_have.ensures.kept
+    (c.if-agreed-count.true ∙ c.loop-slot.invariant.count) c.in_ok-all_have.ensures.next_asks
+    (omega (arith, c.in_ok-all_have.ensures.has_asks, c.loop-slot.invariant.count))
 
 -- one of them gives no answer
-pub returns-in_err-all_agree-clause-costs : goal.returns-in_err-all_agree-clause-costs
-returns-in_err-all_agree-clause-costs g c =
-    rw (handed c.from_residual-in_err-all_agree.result c.in_err-all_agree.field-0.0
-    c.from_residual-in_err-all_agree.ensures.1)
+pub returns-in_err-all_have-clause-costs : goal.returns-in_err-all_have-clause-costs
+returns-in_err-all_have-clause-costs g c =
+    rw (handed c.from_residual-in_err-all_have.result c.in_err-all_have.field-0.0
+    c.from_residual-in_err-all_have.ensures.1)
     (let old = g.Q.Lists.state c.args.lists.now in
     let now = g.Q.Lists.state c.loop-slot.lists in
     let mid = g.Q.Lists.state c.land.new.self in
@@ -88,10 +88,10 @@ returns-in_err-all_agree-clause-costs g c =
     c.in_ok-next.ensures.ends).0
     (subst (λ (k : ℕ). IsTurnAfter k c.loop-slot.which c.turn_after-which.result) c.loop-slot.invariant.count
     c.turn_after-which.ensures) c.agreed_at-agreed.ensures in
-    asked_costs old mid (g.Q.Lists.state c.all_agree.new.lists) c.args.from c.turn_after-which.result
-    c.agreed_at-agreed.result c.in-Some.next.slot turn c.in_err-all_agree.ensures.kept
-    (c.if-agreed-count.true ∙ c.loop-slot.invariant.count) c.in_err-all_agree.ensures.next_asks
-    (omega (arith, c.in_err-all_agree.ensures.has_asks, c.loop-slot.invariant.count)))
+    asked_costs old mid (g.Q.Lists.state c.all_have.new.lists) c.args.from c.turn_after-which.result
+    c.agreed_at-agreed.result c.in-Some.next.slot turn c.in_err-all_have.ensures.kept
+    (c.if-agreed-count.true ∙ c.loop-slot.invariant.count) c.in_err-all_have.ensures.next_asks
+    (omega (arith, c.in_err-all_have.ensures.has_asks, c.loop-slot.invariant.count)))
 
 -- not all of them have it
 pub loop-slot-preserved-then-agreed-count : goal.loop-slot-preserved-then-agreed-count
@@ -108,15 +108,15 @@ loop-slot-preserved-then-agreed-count g c =
     c.turn_after-which.ensures) c.agreed_at-agreed.ensures in
     record {
       count = c.loop-slot.invariant.count;
-      so_far = skip_more old mid (g.Q.Lists.state c.all_agree.new.lists) c.args.from c.turn_after-which.result
-          c.agreed_at-agreed.result c.in-Some.next.slot turn c.in_ok-all_agree.ensures.kept
-          (c.if-agreed-count.true ∙ c.loop-slot.invariant.count) c.in_ok-all_agree.ensures.next_asks
-          (omega (arith, c.in_ok-all_agree.ensures.has_asks, c.loop-slot.invariant.count))
+      so_far = skip_more old mid (g.Q.Lists.state c.all_have.new.lists) c.args.from c.turn_after-which.result
+          c.agreed_at-agreed.result c.in-Some.next.slot turn c.in_ok-all_have.ensures.kept
+          (c.if-agreed-count.true ∙ c.loop-slot.invariant.count) c.in_ok-all_have.ensures.next_asks
+          (omega (arith, c.in_ok-all_have.ensures.has_asks, c.loop-slot.invariant.count))
           (subst (λ (o : Option Landing). LandEnds c.loop-slot.which c.loop-slot.slot now mid (Ok o)) c.in-Some.is
           c.in_ok-next.ensures.ends).0.1
-          (subst (λ (b : Bool). AllHaveEnds c.in-Some.next.slot mid (g.Q.Lists.state c.all_agree.new.lists) (Ok b))
-          c.if-branch.false c.in_ok-all_agree.ensures.ends);
-      vouched = λ yes. none_vouch old.lists (g.Q.Lists.state c.all_agree.new.lists) c.turn_after-which.result
+          (subst (λ (b : Bool). AllHaveEnds c.in-Some.next.slot mid (g.Q.Lists.state c.all_have.new.lists) (Ok b))
+          c.if-branch.false c.in_ok-all_have.ensures.ends);
+      vouched = λ yes. none_vouch old.lists (g.Q.Lists.state c.all_have.new.lists) c.turn_after-which.result
           (c.in-Some.next.slot + 1);
     }
 
@@ -176,13 +176,13 @@ returns-in_err-next-clause-kept g c = keeps_then c.loop-slot.invariant.so_far.so
 pub returns-in_default-clause-kept : goal.returns-in_default-clause-kept
 returns-in_default-clause-kept g c = keeps_then c.loop-slot.invariant.so_far.so_far.kept c.in_ok-next.ensures.kept
 
-pub returns-in_err-all_agree-clause-kept : goal.returns-in_err-all_agree-clause-kept
-returns-in_err-all_agree-clause-kept g c =
-    keeps_then (keeps_then c.loop-slot.invariant.so_far.so_far.kept c.in_ok-next.ensures.kept) c.in_err-all_agree.ensures.kept
+pub returns-in_err-all_have-clause-kept : goal.returns-in_err-all_have-clause-kept
+returns-in_err-all_have-clause-kept g c =
+    keeps_then (keeps_then c.loop-slot.invariant.so_far.so_far.kept c.in_ok-next.ensures.kept) c.in_err-all_have.ensures.kept
 
 pub returns-then-branch-clause-kept : goal.returns-then-branch-clause-kept
 returns-then-branch-clause-kept g c =
-    keeps_then (keeps_then c.loop-slot.invariant.so_far.so_far.kept c.in_ok-next.ensures.kept) c.in_ok-all_agree.ensures.kept
+    keeps_then (keeps_then c.loop-slot.invariant.so_far.so_far.kept c.in_ok-next.ensures.kept) c.in_ok-all_have.ensures.kept
 
 pub returns-clause-kept : goal.returns-clause-kept
 returns-clause-kept g c = c.loop-slot.invariant.so_far.so_far.kept
