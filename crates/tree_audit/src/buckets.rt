@@ -6,7 +6,7 @@ ghost use Rattle.log_audit.specs.KeptVolumes.{FindsIn, FindsPartIn, HasAllCells,
 ghost use Rattle.tree_audit.specs.Buckets.{AsksBucket};
 ghost use Rattle.tree_audit.specs.Nodes.{AreNodes};
 
-use crate::documents::digest_of;
+use crate::documents::identifier_digest;
 use crate::looks::bucket_at;
 use crate::nodes::LevelNode;
 use crate::paths::goes_by;
@@ -71,7 +71,7 @@ fn is_true_bucket(volume: &KeptVolume, node: u32, x: u32) -> bool
     let Some(bucket) = bucket_at(&volume.kept, node + x) else {
         return false;
     };
-    let Some(digest) = digest_of(volume, bucket.slot) else {
+    let Some(digest) = identifier_digest(volume, bucket.slot) else {
         return false;
     };
     if !bucket.has_fingerprint(&digest) {

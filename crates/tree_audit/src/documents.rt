@@ -9,7 +9,7 @@ ghost use Rattle.tree_audit.specs.Documents.{HasDigest, HasHead};
 
 use document_store::{Head, Position, read_head};
 use log_audit::{KeptVolume, Shown};
-use sha2::{Digest, Sha256};
+use volume_meaning::digest_of;
 
 /// What stands before the body of the document of a slot, if the slot is done, where rule 4 is kept.
 pub(crate) fn head_of(volume: &KeptVolume, slot: u32) -> Option<Head>
@@ -35,7 +35,7 @@ pub(crate) fn head_of(volume: &KeptVolume, slot: u32) -> Option<Head>
 }
 
 /// The SHA-256 of the identifier of the document of a slot, if the slot is done, where rule 4 is kept.
-pub(crate) fn digest_of(volume: &KeptVolume, slot: u32) -> Option<[u8; 32]>
+pub(crate) fn identifier_digest(volume: &KeptVolume, slot: u32) -> Option<[u8; 32]>
     requires stated { IsStated volume.now }
     requires count { HasAllCells volume.now }
     requires documents { KeepsRule volume.now Documents }
@@ -46,7 +46,7 @@ pub(crate) fn digest_of(volume: &KeptVolume, slot: u32) -> Option<[u8; 32]>
     let Some(head) = head_of(volume, slot) else {
         return None;
     };
-    Some(Sha256::digest(identifier(&head)))
+    Some(digest_of(identifier(&head)))
 }
 
 /// The identifier that stands before a body.

@@ -28,9 +28,9 @@
 //! bucket costs no reading of a body. Rule 12 needs rules 1 and 5: the targets of a journal rise, so that the copy of a
 //! child cell is found by bisection.
 //!
-//! Stands on `log_audit`, `slot_audit` and `list_audit`, on `document_store` for identifiers, on `hash_tree` for half
-//! bytes, and on `sha2`. Begin with `nodes.rt`, then `buckets.rt`. Rule 10, of pointers, is in `pointers.rt`: which blocks a
-//! pointer's target meets is asked as it is asked of nodes.
+//! Stands on `log_audit`, `slot_audit` and `list_audit`, on `document_store` for identifiers, and on
+//! `volume_meaning` for digests and their half bytes. Begin with `nodes.rt`, then `buckets.rt`. Rule 10, of pointers, is in
+//! `pointers.rt`: which blocks a pointer's target meets is asked as it is asked of nodes.
 #![tactic(auto)]
 
 mod around;

@@ -5,9 +5,8 @@ ghost use Rattle.tree_audit.specs.Paths.{GoesBy};
 
 use crate::looks::child_at;
 use cell_types::Geometry;
-use hash_tree::nibble_of;
 use log_audit::KeptCells;
-use volume_meaning::NODE_BUCKETS;
+use volume_meaning::{NODE_BUCKETS, nibble_of};
 
 /// A digest has so many half bytes, and its path at most one node for each.
 pub(crate) const LEVELS: u8 = 64;

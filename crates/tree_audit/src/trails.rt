@@ -12,11 +12,9 @@ use crate::looks::{bucket_at, child_at};
 use crate::paths::LEVELS;
 use cell_types::Evidence;
 use document_store::Head;
-use hash_tree::nibble_of;
 use log_audit::KeptVolume;
-use sha2::{Digest, Sha256};
 use tamper_rules::MISSING_PATH;
-use volume_meaning::{HeldBucket, NODE_BUCKETS};
+use volume_meaning::{HeldBucket, NODE_BUCKETS, digest_of, nibble_of};
 
 /// The first done cell at which rule 14 is broken, where rule 4 is kept. Only hash trails are looked for: of two
 /// documents with one identifier one alone has such a trail.
@@ -55,7 +53,7 @@ fn has_hash_trail(volume: &KeptVolume, slot: u32, head: &Head) -> bool
     ensures { IsTrue result ↔ HasRootTrail volume.now.geometry (image_in volume.now) (id_of head.now) slot }
 {
     let _cells = volume.geometry.cells();
-    let digest = Sha256::digest(identifier(head));
+    let digest = digest_of(identifier(head));
     let mut node = volume.geometry.root_at();
     for level in 0..LEVELS {
         let x = u32::from(nibble_of(&digest, level));

@@ -16,7 +16,7 @@ pub returns-in_default : goal.returns-in_default
 returns-in_default c =
     let g = c.args.volume.now.geometry in let image = image_in c.args.volume.now in let id = id_of c.args.head.now in
     let level = c.loop-level.level in let node = c.loop-level.node in
-    let digest : c.digest-digest.result ≡ sha256 id = c.digest-digest.ensures ∙ ap sha256 c.identifier.ensures in
+    let digest : c.digest_of-digest.result ≡ sha256 id = c.digest_of-digest.ensures ∙ ap sha256 c.identifier.ensures in
     let by : c.from-x.result ≡ nibble (sha256 id) level =
     c.from-x.ensures ∙ c.nibble_of.ensures.same ∙ ap (λ (d : List ℕ). nibble d level) digest in
     no (no_bucket c.loop-level.invariant c.loop-level-test.true (λ slot fingerprint h. c.in_default.ensures slot fingerprint
@@ -26,7 +26,7 @@ pub returns-then-is_own : goal.returns-then-is_own
 returns-then-is_own c =
     let g = c.args.volume.now.geometry in let image = image_in c.args.volume.now in let id = id_of c.args.head.now in
     let level = c.loop-level.level in let node = c.loop-level.node in
-    let digest : c.digest-digest.result ≡ sha256 id = c.digest-digest.ensures ∙ ap sha256 c.identifier.ensures in
+    let digest : c.digest_of-digest.result ≡ sha256 id = c.digest_of-digest.ensures ∙ ap sha256 c.identifier.ensures in
     let by : c.from-x.result ≡ nibble (sha256 id) level =
     c.from-x.ensures ∙ c.nibble_of.ensures.same ∙ ap (λ (d : List ℕ). nibble d level) digest in
     let b = c.in-Some.bucket in
@@ -38,7 +38,7 @@ pub returns-then-not-is_passed : goal.returns-then-not-is_passed
 returns-then-not-is_passed c =
     let g = c.args.volume.now.geometry in let image = image_in c.args.volume.now in let id = id_of c.args.head.now in
     let level = c.loop-level.level in let node = c.loop-level.node in
-    let digest : c.digest-digest.result ≡ sha256 id = c.digest-digest.ensures ∙ ap sha256 c.identifier.ensures in
+    let digest : c.digest_of-digest.result ≡ sha256 id = c.digest_of-digest.ensures ∙ ap sha256 c.identifier.ensures in
     let by : c.from-x.result ≡ nibble (sha256 id) level =
     c.from-x.ensures ∙ c.nibble_of.ensures.same ∙ ap (λ (d : List ℕ). nibble d level) digest in
     let b = c.in-Some.bucket in
@@ -51,7 +51,7 @@ pub returns-in_default-child_at : goal.returns-in_default-child_at
 returns-in_default-child_at c =
     let g = c.args.volume.now.geometry in let image = image_in c.args.volume.now in let id = id_of c.args.head.now in
     let level = c.loop-level.level in let node = c.loop-level.node in
-    let digest : c.digest-digest.result ≡ sha256 id = c.digest-digest.ensures ∙ ap sha256 c.identifier.ensures in
+    let digest : c.digest_of-digest.result ≡ sha256 id = c.digest_of-digest.ensures ∙ ap sha256 c.identifier.ensures in
     let by : c.from-x.result ≡ nibble (sha256 id) level =
     c.from-x.ensures ∙ c.nibble_of.ensures.same ∙ ap (λ (d : List ℕ). nibble d level) digest in
     let b = c.in-Some.bucket in
@@ -65,7 +65,7 @@ pub loop-level-preserved : goal.loop-level-preserved
 loop-level-preserved c =
     let g = c.args.volume.now.geometry in let image = image_in c.args.volume.now in let id = id_of c.args.head.now in
     let level = c.loop-level.level in let node = c.loop-level.node in
-    let digest : c.digest-digest.result ≡ sha256 id = c.digest-digest.ensures ∙ ap sha256 c.identifier.ensures in
+    let digest : c.digest_of-digest.result ≡ sha256 id = c.digest_of-digest.ensures ∙ ap sha256 c.identifier.ensures in
     let by : c.from-x.result ≡ nibble (sha256 id) level =
     c.from-x.ensures ∙ c.nibble_of.ensures.same ∙ ap (λ (d : List ℕ). nibble d level) digest in
     let b = c.in-Some.bucket in
