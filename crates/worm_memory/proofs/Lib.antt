@@ -6,6 +6,7 @@ pub mod Counting
 pub mod Cells
 pub mod Following
 pub mod Keeping
+mod LaterSteps
 pub mod Losing
 pub mod Crashes
 pub mod Others

@@ -8,10 +8,10 @@ use Rattle.std.proofs.Math.Seq.{take-length}
 use Rattle.std.proofs.Props.{props}
 use Rattle.std.proofs.lemmas.Bool.{and_from, and_parts, cases_Bool, cond_both}
 use Rattle.std.proofs.lemmas.Bool.Decides.{nat_tests}
-use Rattle.std.proofs.lemmas.List.{append-nil, append_assoc}
+use Rattle.std.proofs.lemmas.List.{append-nil, append_assoc, drop-drop, drop-take}
 use Rattle.std.proofs.lemmas.List.Folds.{list_all-append, list_any-append}
 use Rattle.worm_memory.specs.Moments.{is_others_write, made_before, made_if_blank, stood_at}
-use Rattle.worm_memory.specs.OwnChanges.{is_of_call, own_changes_in, changes_since, made_since, IsBelowMoment, IsNumbered, IsWrittenEarly, NoneIsUncounted, PlannedWritesComeFirst, TakesSteps, OwnChangesTakeSteps}
+use Rattle.worm_memory.specs.OwnChanges.{is_of_call, own_changes_in, changes_since, made_since, IsBelowMoment, IsNumbered, IsWrittenEarly, NoneIsUncounted, PlannedWritesComeFirst, TakesSteps, OwnChangesTakeSteps, ComePast}
 use Rattle.worm_memory.specs.Memory.{KeepsPlan, Memory, course_of}
 use Rattle.worm_memory.specs.Plans.{CommandPlan, calls_for, is_called_for, is_past, is_reached, last_changes, last_foreign_writes, names, next_step}
 use Rattle.worm_memory.specs.Runs.{Course, OneCall, a_read, a_step, a_sync, a_write, is_step_of, planned_into, planned_write, planned_writes, after_coming, called_so, after_call, after_calls, HasRun}
@@ -24,7 +24,9 @@ use Rattle.worm_memory.specs.declared.moment.Moment.{Moment}
 use Rattle.worm_memory.specs.declared.moment.Moment.TheVariants.{Step, Call}
 use Rattle.worm_memory.specs.declared.moment.Timed.{Timed}
 use Rattle.worm_memory.proofs.Worlds.{image_grows, image_is, written_here, Adds}
-use Rattle.worm_memory.proofs.Accounts.{ordered_next}
+use Rattle.worm_device.specs.Counts.{Rose}
+use Rattle.worm_memory.proofs.Accounts.{ordered_next, step_later}
+use Rattle.worm_memory.proofs.LaterSteps.{ComeFrom, Rises, come_from, later_all, later_before, own_calls, rises_call}
 use Rattle.worm_memory.proofs.MadeThen.{one_added, added, Noted, changes_of, numbers_of, changes_more, before_in, before_more, own_of, Tells, tells_first, s', c', k, refused, extra, theirs, begun_call, noted', steps_are, tells_call, noted_call, noted_first, begun_dropped}
 
 own_both : (xs ys : List Change) → own_changes_in (xs ++ ys) ≡ own_changes_in xs + own_changes_in ys
@@ -244,6 +246,7 @@ record Counts (b x : Course) (noted : Noted) : Type 0 where
   pub most : x.steps < 2 ^ 64 - 1 → own_changes_in (changes_of noted) ≤ x.steps
   pub before : (m : Moment) → IsNumbered m → IsBelowMoment (own_changes_in (before_in m noted)) m
   pub told : (at : ℕ) → AreTold at (changes_of noted) ((world x.changes).image at)
+  pub rises : Rises 0 x.steps (own_calls noted)
   pub still : foreign_writes_in (changes_of noted) ≡ 0 → x.foreign_writes ≡ b.foreign_writes
 
 counts_first : (b : Course) → Counts b b []
@@ -252,6 +255,7 @@ counts_first b = record {
   most = λ below. omega arith;
   before = none_before;
   told = λ at any. absurd (false_true any);
+  rises = omega arith;
   still = λ none. refl;
 }
   where
@@ -362,6 +366,24 @@ module _ (p : CommandPlan) (b x : Course) (call : OneCall) (so : Tells p b x) (c
       ∙ still_added (is_step_of call) p.foreign (begun_call p b x call so) (omega (arith, all, parts, none))
       ∙ counts.still (omega (arith, all, parts, none))
 
+  rose_call : own_changes_in more ≡ 1 → Rose x.steps steps'
+  rose_call one = rose_if call (omega (arith, one, own_more))
+    where
+      rose_if : (next : OneCall) → 1 ≤ one_for (is_step_of next) → Rose x.steps (next_step (is_step_of next) x.steps)
+      rose_if a_read some = absurd (omega (arith, some))
+      rose_if a_step some = omega arith
+      rose_if (a_write at value) some = omega arith
+      rose_if a_sync some = omega arith
+
+  at_most_one : own_changes_in more ≤ 1
+  at_most_one = one_at_most call own_more
+    where
+      one_at_most : (next : OneCall) → own_changes_in more ≤ one_for (is_step_of next) → own_changes_in more ≤ 1
+      one_at_most a_read le = omega (arith, le)
+      one_at_most a_step le = le
+      one_at_most (a_write at value) le = le
+      one_at_most a_sync le = le
+
   counts_call : Counts b after noted
   counts_call = record {
     calls = subst (λ (l : List Change). list_all is_of_call l ≡ true) (sym changes_are)
@@ -372,6 +394,9 @@ module _ (p : CommandPlan) (b x : Course) (call : OneCall) (so : Tells p b x) (c
         (most_after (subst (λ n. n < 2 ^ 64 - 1) (steps_are p b x call so) below));
     before = before_after;
     told = told_after;
+    rises = subst (λ n. Rises 0 n (own_calls noted)) (sym (steps_are p b x call so))
+        (rises_call x.steps (k p b x call so) more so.noted counts.rises
+        (step_later (is_step_of call) x.steps (omega (arith, so.ordered, so.fits))) ordered_after at_most_one rose_call);
     still = still_after;
   }
 
@@ -392,6 +417,16 @@ record RunTells (p : CommandPlan) (marks : List Mark) (now : Course) : Type 0 wh
   pub before : (m : Moment) → IsNumbered m → IsBelowMoment
       (own_changes_in (made_before m (drop (last_changes marks) now.changes) (drop (last_changes marks) now.made_in))) m
   pub told : (at : ℕ) → AreTold at (drop (last_changes marks) now.changes) ((world now.changes).image at)
+  pub later : (m : Moment) → IsNumbered m → (j steps : ℕ) → steps ≤ now.steps
+      → ComeFrom steps j (drop (last_changes marks) now.changes) (drop (last_changes marks) now.made_in)
+      → j ≤ length (made_before m (drop (last_changes marks) now.changes) (drop (last_changes marks) now.made_in))
+      → 1 ≤ own_changes_in
+      (drop j (made_before m (drop (last_changes marks) now.changes) (drop (last_changes marks) now.made_in)))
+      → IsBelowMoment (steps + own_changes_in
+      (drop j (made_before m (drop (last_changes marks) now.changes) (drop (last_changes marks) now.made_in)))) m
+  pub later_most : (j steps : ℕ) → steps ≤ now.steps → now.steps < 2 ^ 64 - 1
+      → ComeFrom steps j (drop (last_changes marks) now.changes) (drop (last_changes marks) now.made_in)
+      → steps + own_changes_in (drop j (drop (last_changes marks) now.changes)) ≤ now.steps
   pub still : foreign_writes_in (drop (last_changes marks) now.changes) ≡ 0
       → now.foreign_writes ≡ last_foreign_writes marks
 
@@ -422,8 +457,20 @@ run_tells p marks now run =
           (sym since) (subst (λ (l : List CallNumbers). IsBelowMoment (own_changes_in
           (made_before m (changes_of so.noted) l)) m) (sym in_calls) (counts.before m is));
       told = λ at. subst (λ (l : List Change). AreTold at l ((world end.changes).image at)) (sym since) (counts.told at);
+      later = λ m is j steps less. subst (λ (two : List Change × List CallNumbers). ComeFrom steps j two.0 two.1
+          → j ≤ length (made_before m two.0 two.1) → 1 ≤ own_changes_in (drop j (made_before m two.0 two.1))
+          → IsBelowMoment (steps + own_changes_in (drop j (made_before m two.0 two.1))) m)
+          (sym (pair_is (drop n end.changes) (changes_of so.noted) (drop n end.made_in) (numbers_of so.noted) since in_calls))
+          (later_before m is j steps end.steps so.noted less counts.rises);
+      later_most = λ j steps less below. subst (λ (two : List Change × List CallNumbers). ComeFrom steps j two.0 two.1
+          → steps + own_changes_in (drop j two.0) ≤ end.steps)
+          (sym (pair_is (drop n end.changes) (changes_of so.noted) (drop n end.made_in) (numbers_of so.noted) since in_calls))
+          (later_all j steps end.steps so.noted less below counts.rises);
       still = λ none. counts.still (ap foreign_writes_in (sym since) ∙ none) ∙ run.begins.foreign_writes;
     })
+  where
+    pair_is : {A B : Type 0} (a a' : A) (b b' : B) → a ≡ a' → b ≡ b' → ◌≡◌ {A = A × B} (a, b) (a', b')
+    pair_is a a' b b' p q = cc
 
 pub takes_steps : OwnChangesTakeSteps
 takes_steps m keeps = record {
@@ -517,6 +564,29 @@ module _ (m : Memory) (timed : Timed) (value : List ℕ) (keeps : KeepsPlan m) (
   since_length : length since ≡ length m.changes - n
   since_length = length-drop n m.changes
 
+  -- a place behind the command's beginning
+  module _ (place count steps early' : ℕ) (from : n ≤ place) (whole : place + count ≡ n + early')
+      (past : ComePast steps place m) where
+    abbrev j : ℕ
+    j = place - n
+
+    there : n + j ≡ place
+    there = omega (arith, from)
+
+    come : ComeFrom steps j since (made_since m)
+    come = come_from n j steps m.changes m.made_in within
+        (subst (λ k. ComeFrom steps k m.changes m.made_in) (sym there) past.each)
+
+    dropped : take count (drop place m.changes) ≡ take count (drop j since)
+    dropped = ap (take count) (ap (λ k. drop k m.changes) (sym there) ∙ sym (drop-drop j n m.changes))
+
+    -- the row up to an early one, without those before the place
+    cut : (first : List Change) → length first ≡ early' → take (length first) since ≡ first
+        → take count (drop j since) ≡ drop j first
+    cut first long is =
+        sym (drop-take j count since)
+        ∙ ap (λ k. drop j (take k since)) (omega (arith, whole, there, long)) ∙ ap (drop j) is
+
   by_others : list_any (is_others_write timed.at) since ≡ true
       → list_any (calls_for m.steps m.calls timed.at value) m.plan.foreign ≡ true
   by_others any = ∥∥₁_elim keeps.run (Prim.hlevel props)
@@ -526,6 +596,15 @@ module _ (m : Memory) (timed : Timed) (value : List ℕ) (keeps : KeepsPlan m) (
       (is_same was.0 value ((world m.changes).image timed.at) was.2 stands)
       (was.1 (is_called_for m.steps m.calls m.plan.foreign) keeps.named))
 
+  later_than : (moment : Moment) → IsNumbered moment → (j' past : ℕ) → past ≤ m.steps
+      → ComeFrom past j' since (made_since m) → j' ≤ length (made_before moment since (made_since m))
+      → 1 ≤ own_changes_in (drop j' (made_before moment since (made_since m)))
+      → IsBelowMoment (past + own_changes_in (drop j' (made_before moment since (made_since m)))) moment
+  later_than (Step number) is j' past less come_past low some = ∥∥₁_elim keeps.run (Prim.hlevel props)
+      (λ run. (run_tells m.plan m.marks (course_of m) run).later (Step number) is j' past less come_past low some)
+  later_than (Call number) is j' past less come_past low some = ∥∥₁_elim keeps.run (Prim.hlevel props)
+      (λ run. (run_tells m.plan m.marks (course_of m) run).later (Call number) is j' past less come_past low some)
+
   at_the_end : list_any (is_others_write timed.at) since ≡ false → is_reached m.steps m.calls timed.before ≡ false
       → IsWrittenEarly m timed.at timed.before
   at_the_end none not = record {
@@ -534,6 +613,15 @@ module _ (m : Memory) (timed : Timed) (value : List ℕ) (keeps : KeepsPlan m) (
     within = omega (arith, since_length, within);
     few = subst (λ l. IsBelowMoment (own_changes_in l) timed.before) (sym (take-length since))
         (unreached m.steps m.calls (own_changes_in since) timed.before steps.ordered steps.most not numbered);
+    later = λ place count past from whole come_past some.
+        let row : take count (drop place m.changes) ≡ drop (place - n) since =
+        dropped place count past (length since) from whole come_past
+        ∙ cut place count past (length since) from whole come_past since refl (take-length since) in
+        subst (λ l. IsBelowMoment (past + own_changes_in l) timed.before) (sym row)
+        (unreached m.steps m.calls (past + own_changes_in (drop (place - n) since)) timed.before steps.ordered
+        (λ below. ∥∥₁_elim keeps.run (Prim.hlevel props)
+        (λ run. (run_tells m.plan m.marks (course_of m) run).later_most (place - n) past come_past.counted below
+        (come place count past (length since) from whole come_past))) not numbered);
     found = value;
     stands = subst (λ l. (world l).image timed.at ≡ Some value)
         (sym (take-length m.changes) ∙ ap (λ k. take k m.changes) (omega (arith, since_length, within))) stands;
@@ -555,6 +643,15 @@ module _ (m : Memory) (timed : Timed) (value : List ℕ) (keeps : KeepsPlan m) (
         within = omega (arith, since_length, within, before_length timed.before since (made_since m));
         few = subst (λ l. IsBelowMoment (own_changes_in l) timed.before)
             (sym (before_first timed.before since (made_since m))) (steps.before timed.before numbered);
+        later = λ place count past from whole come_past some.
+            let row : take count (drop place m.changes) ≡ drop (place - n) first =
+            dropped place count past (length first) from whole come_past
+            ∙ cut place count past (length first) from whole come_past first refl
+            (before_first timed.before since (made_since m)) in
+            subst (λ l. IsBelowMoment (past + own_changes_in l) timed.before) (sym row)
+            (later_than timed.before numbered (place - n) past come_past.counted
+            (come place count past (length first) from whole come_past) (omega (arith, whole, from))
+            (subst (λ l. 1 ≤ own_changes_in l) row some));
         found = there.0;
         stands = ap (λ (l : List Change). (world l).image timed.at)
             (take_both n (length first) m.changes within

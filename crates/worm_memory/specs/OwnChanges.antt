@@ -1,7 +1,8 @@
 -- What a command has changed itself, and how far it had come by then: each such change takes a step of its own.
 use Rattle.std.specs.Prelude.{◌≡◌, ◌<◌, ◌≤◌, ◌+◌, ◌-◌, ◌^◌, ◌⊎◌, ℕ, Bool, List, [], ◌∷◌, drop, length, take, Some, false, true, Contains}
 use Rattle.std.specs.List.{list_all, list_any}
-use Rattle.worm_memory.specs.Memory.{KeepsPlan, Memory}
+use Rattle.worm_device.specs.Counts.{Rose}
+use Rattle.worm_memory.specs.Memory.{KeepsPlan, Memory, change_steps}
 use Rattle.worm_memory.specs.Moments.{is_others_write, made_before}
 use Rattle.worm_memory.specs.Plans.{calls_for, last_changes, last_foreign_writes}
 use Rattle.worm_memory.specs.Worlds.{foreign_writes_in, world}
@@ -60,13 +61,22 @@ pub record TakesSteps (m : Memory) : Type 0 where
 abbrev pub OwnChangesTakeSteps : Type 0
 OwnChangesTakeSteps = (m : Memory) → KeepsPlan m → TakesSteps m
 
+-- From this place of the record on each change came in a step past so many, or before one that is.
+pub record ComePast (steps place : ℕ) (m : Memory) : Type 0 where
+  pub counted : steps ≤ m.steps
+  pub each : (i : ℕ) → place ≤ i → i < length m.changes → Rose steps (change_steps m.changes m.made_in i)
+
 -- The cell was written early in the present command, and by nobody else since it began: after so many changes since then,
--- of which fewer are the command's own than this moment's number.
+-- of which fewer are the command's own than this moment's number. So it is from any place on, counted with the steps that
+-- the changes from there on came past, where one is the command's own.
 pub record IsWrittenEarly (m : Memory) (at : ℕ) (moment : Moment) : Type 0 where
   pub alone : list_any (is_others_write at) (changes_since m) ≡ false
   pub early : ℕ
   pub within : last_changes m.marks + early ≤ length m.changes
   pub few : IsBelowMoment (own_changes_in (take early (changes_since m))) moment
+  pub later : (place count steps : ℕ) → last_changes m.marks ≤ place → place + count ≡ last_changes m.marks + early
+      → ComePast steps place m → 1 ≤ own_changes_in (take count (drop place m.changes))
+      → IsBelowMoment (steps + own_changes_in (take count (drop place m.changes))) moment
   pub found : List ℕ
   pub stands : (world (take (last_changes m.marks + early) m.changes)).image at ≡ Some found
 
