@@ -27,7 +27,7 @@ use Rattle.script_replies.specs.declared.reply.Reply.{Reply}
 use Rattle.script_replies.specs.declared.reply.Reply.TheVariants as reply
 use Rattle.hostile_replay.specs.ForeignOutcome.{AbandonedIsNotAcknowledged, IsAmongFirst, abandoned_before, foreign_plan, format_event, ingest_event}
 use Rattle.hostile_replay.specs.Headline.{IsNew}
-use Rattle.hostile_replay.specs.InTime.{changes_to_commit}
+use Rattle.hostile_replay.specs.InTime.{steps_to_commit}
 use Rattle.hostile_replay.specs.Turns.{FormatAnswers, Turns, event_layout}
 use Rattle.hostile_replay.specs.Worlds.{AreInTurn, Turn}
 use Rattle.hostile_replay.proofs.CommitsFirst.{commits_first}
@@ -91,11 +91,11 @@ no_commit : (moment : Moment) (bytes journal : ℕ)
     → IsRecordCell (Commit bytes journal) 5 (abandoned_before moment).cell → ⊥
 no_commit moment bytes journal is = let first = ap (λ (l : List ℕ). slice_index_or l 0 0) is.same in omega (arith, first)
 
-numbered : (moment : Moment) → IsAmongFirst 8 moment → IsNumbered moment
+numbered : (moment : Moment) → IsAmongFirst 9 moment → IsNumbered moment
 numbered (Step number) is = (is.0, omega (arith, is.1))
 numbered (Call number) is = (is.0, omega (arith, is.1))
 
-too_early : (n : ℕ) (moment : Moment) → 8 ≤ n → IsAmongFirst 8 moment → IsBelowMoment n moment → ⊥
+too_early : (n : ℕ) (moment : Moment) → 9 ≤ n → IsAmongFirst 9 moment → IsBelowMoment n moment → ⊥
 too_early n (Step number) le is below = omega (arith, le, is.1, below)
 too_early n (Call number) le is below = omega (arith, le, is.1, below)
 
@@ -162,7 +162,7 @@ module _ (r : Reply) (old new : Memory) (device : IsDevice (device_of new)) (bla
 
 -- the two turns
 two_turns : (moment : Moment) (first : Reply) (a b : Turn) (from : Memory) → IsDevice (device_of from) → IsNew from
-    → from.faults ≡ 0 → from.cells ≡ 1000 → IsAmongFirst 8 moment
+    → from.faults ≡ 0 → from.cells ≡ 1000 → IsAmongFirst 9 moment
     → a.old ≡ from → IsDevice (device_of a.new) → Turns format_event first a.old a.new
     → b.old ≡ a.new → IsDevice (device_of b.new) → Turns (ingest_event moment) (reply.Acknowledged 0) b.old b.new → ⊥
 two_turns moment first a b from device new unfailed cells among a_old a_device a_turn b_old b_device b_turn =
@@ -182,7 +182,7 @@ two_turns moment first a b from device new unfailed cells among a_old a_device a
     let there : IsVolume 1000 (device_of b.new).image small_layout = volume_on b_turn.called.image here in
     let same : late.0 ≡ small_layout = one_layout late.0 small_layout late.1 there in
     let are = subst (λ (l : Layout). ArePostings l None (codes "hello world") 0 late.2.rows) same late.2.are in
-    too_early (changes_to_commit (codes "a") (codes "hello world") late.2.rows) moment
+    too_early (steps_to_commit (codes "a") (codes "hello world") late.2.rows) moment
     (omega (arith, two_rows late.2.rows are)) among late.2.past
 
 no_event : {A : Type 0} (a : A) (rest : List A) → a ∷ rest ≡ [] → ⊥
@@ -195,7 +195,7 @@ rest_is : {A : Type 0} (a b : A) (more rest : List A) → a ∷ more ≡ b ∷ r
 rest_is a b more rest e = ap (λ l. drop 1 l) e
 
 in_turns : (moment : Moment) (events : List Event) (first : Reply) (replies : List Reply) (from to : Memory)
-    → IsDevice (device_of from) → IsNew from → from.faults ≡ 0 → from.cells ≡ 1000 → IsAmongFirst 8 moment
+    → IsDevice (device_of from) → IsNew from → from.faults ≡ 0 → from.cells ≡ 1000 → IsAmongFirst 9 moment
     → (turns : List Turn) → format_event ∷ ingest_event moment ∷ events ≡ map (λ (t : Turn). t.event) turns
     → first ∷ reply.Acknowledged 0 ∷ replies ≡ map (λ (t : Turn). t.reply) turns → AreInTurn from turns to → ⊥
 in_turns moment events first replies from to device new unfailed cells among [] e r leads = no_event _ _ e

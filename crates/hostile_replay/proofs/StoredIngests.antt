@@ -18,9 +18,9 @@ use Rattle.volume_meaning.proofs.Holding.{one_record_holds}
 use Rattle.tamper_rules.specs.Journals.{journal_at}
 use Rattle.tamper_rules.proofs.GivenUp.{one_layout}
 use Rattle.worm_device.specs.Calls.{Called}
-use Rattle.worm_device.specs.Counts.{IsStill}
+use Rattle.worm_device.specs.Counts.{IsStill, Rose}
 use Rattle.worm_device.specs.State.{DeviceState, IsDevice}
-use Rattle.worm_device.proofs.Elapsing.{called_then}
+use Rattle.worm_device.proofs.Elapsing.{called_then, remembers_of}
 use Rattle.worm_device.proofs.Images.{extends_self, extends_then}
 use Rattle.recovery_engine.specs.Ending.{abandon_put, done_put, end_phases}
 use Rattle.recovery_engine.specs.Journal.{IsEntryOf, IsEntryPut}
@@ -54,6 +54,8 @@ pub record PutsBlank (id : List ℕ) (stamp : Option ℕ) (body : List ℕ) (n :
   pub called : Called old looked
   pub unused : IsUnused layout old.image n
   pub blank : AreBlank old.image (reserved_by plan)
+  pub stepped : Rose old.steps looked.steps
+  pub reserve : looked.image (reserve_at n) ≡ None
   pub outcome : looked.image (outcome_at n) ≡ None
   pub pooled : AreBlank looked.image (reserved_by plan)
   pub still : IsStill looked.foreign_writes new.foreign_writes
@@ -174,6 +176,23 @@ module _ (old new : DeviceState) (result : Result Ready Refusal) (tells : old.te
       absurd (omega (arith, asked_low old between slot is.put asked, is.here, unused.slot, ap lists_at same)))
       (put_there writes.state is.planned.0 is.put is.planned.2 refl))
       (writes.only still (outcome_at n) value stands))
+
+  -- and so does its reserve cell
+  pub reserve_stays : (layout : Layout) (n : ℕ) → IsVolume new.cells new.image layout → IsUnused layout old.image n
+      → new.image (reserve_at n) ≡ None
+  reserve_stays layout n volume unused = left_blank (new.image (reserve_at n)) (λ value stands. ⊎_elim
+      (λ (stood : old.image (reserve_at n) ≡ Some value). none-some value (sym unused.reserve ∙ stood))
+      (λ (is : IsPut (IsInFirst (settle_plan between slot writes.state) 3) old.image (reserve_at n) value). ⊎_elim
+      (λ (log : (is.put.at ≡ outcome_at slot) ⊎ (is.put.at ≡ done_at slot)). ⊎_elim
+      (λ (a : is.put.at ≡ outcome_at slot). absurd (omega (arith, a, is.here)))
+      (λ (b : is.put.at ≡ done_at slot). absurd (omega (arith, b, is.here)))
+      log)
+      (λ (asked : IsAsked old between slot is.put).
+      let same : asked.ending.layout ≡ layout =
+      one_layout asked.ending.layout layout (volume_on writes.stands asked.ending.volume) volume in
+      absurd (omega (arith, asked_low old between slot is.put asked, is.here, unused.slot, ap lists_at same)))
+      (put_there writes.state is.planned.0 is.put is.planned.2 refl))
+      (writes.only still (reserve_at n) value stands))
 
 -- Where it ends well, so does each cell behind the edge.
 module _ (old new : DeviceState) (r : Ready) (tells : old.tells ≡ true)
@@ -297,6 +316,14 @@ module _ (id : List ℕ) (stamp : Option ℕ) (body : List ℕ) (n : ℕ) (old n
     blank_outcome grows = h.quiet parts.1 (outcome_at n)
         ∙ outcome_stays old h.settled (Ok r) tells parts.0 h.settles done.layout n (settled_volume grows) done.unused
 
+    blank_reserve : Extends looked.image new.image → looked.image (reserve_at n) ≡ None
+    blank_reserve grows = h.quiet parts.1 (reserve_at n)
+        ∙ reserve_stays old h.settled (Ok r) tells parts.0 h.settles done.layout n (settled_volume grows) done.unused
+
+    -- settling has made a step
+    stepped : Rose old.steps looked.steps
+    stepped = omega (arith, h.settles.stepped refl tells, (remembers_of h.looked).steps)
+
     blank_behind : (cell : ℕ) → r.edge ≤ cell → old.image cell ≡ None → looked.image cell ≡ None
     blank_behind cell behind blank =
         h.quiet parts.1 cell ∙ behind_stays old h.settled r tells parts.0 h.settles cell behind blank
@@ -339,6 +366,8 @@ module _ (id : List ℕ) (stamp : Option ℕ) (body : List ℕ) (n : ℕ) (old n
         called = called_then h.settles.called h.looked;
         unused = unused;
         blank = blank;
+        stepped = stepped looked r h two.0;
+        reserve = blank_reserve looked r h two.0 grows;
         outcome = none;
         pooled = λ cell of. blank_behind looked r h two.0 cell (omega (arith, of.from, is.starts)) (blank cell of);
         still = two.1;

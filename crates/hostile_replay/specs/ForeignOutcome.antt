@@ -4,9 +4,9 @@
 --     format 8 2                                                         formatted
 --     ingest a `hello world`, foreign: before a step, 04 .. 05 in 5      not acknowledged
 --
--- On a device of 1,000 cells the ingest commits slot 0 in cell 5, behind seven changes that it has to make before: cells 4
--- and 580 to 583, and two syncs. So a moment up to the eighth step comes before that. (`ingest` makes a sync before all of
--- these, which changes nothing here, and commits in its ninth step. No contract tells of a sync that changes nothing.)
+-- On a device of 1,000 cells the ingest commits slot 0 in cell 5, in its ninth step at the earliest: before that it makes
+-- the sync with which it settles, which has nothing to make sure here, writes cells 4 and 580 to 583, and makes two syncs
+-- more. So a moment up to the ninth step comes before the commit.
 use Rattle.std.specs.Prelude.{◌≡◌, ◌≤◌, ℕ, List, [], ◌∷◌, None, codes}
 use Rattle.worm_device.specs.State.{IsDevice}
 use Rattle.worm_memory.specs.Memory.{Memory, device_of}
@@ -50,9 +50,9 @@ IsAmongFirst most (Step number) = (1 ≤ number) × (number ≤ most)
 IsAmongFirst most (Call number) = (1 ≤ number) × (number ≤ most)
 
 -- The ingest is acknowledged in no world of a script that begins so, on a new device of 1,000 cells, where the moment is
--- one of the first eight.
+-- one of the first nine.
 abbrev pub AbandonedIsNotAcknowledged : Type 0
 AbandonedIsNotAcknowledged =
     (moment : Moment) (events : List Event) (first : Reply) (replies : List Reply) (from to : Memory)
-    → IsDevice (device_of from) → IsNew from → from.faults ≡ 0 → from.cells ≡ 1000 → IsAmongFirst 8 moment
+    → IsDevice (device_of from) → IsNew from → from.faults ≡ 0 → from.cells ≡ 1000 → IsAmongFirst 9 moment
     → IsWorld (format_event ∷ ingest_event moment ∷ events) (first ∷ reply.Acknowledged 0 ∷ replies) from to → ⊥

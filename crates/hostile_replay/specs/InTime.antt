@@ -24,18 +24,18 @@ pub record WritesOutcome (n : ℕ) (plan : Schedule) (timed : Timed) : Type 0 wh
   pub when : IsNumbered timed.before
   pub other : (bytes journal : ℕ) → IsRecordCell (Commit bytes journal) (outcome_at n) timed.cell → ⊥
 
--- How much an ingest changes itself, at the least, up to its commit cell: it writes the reserve cell, and makes it sure;
--- writes the content cells, and a journal cell for each posting and one for the bucket, and makes them sure; and writes the
--- commit cell.
-abbrev pub changes_to_commit : List ℕ → List ℕ → List ListedPosting → ℕ
-changes_to_commit id body rows = 5 + cells_for (length (stored_bytes id body)) + length rows
+-- In which step an ingest commits, at the earliest: it makes the sync with which it settles; writes the reserve cell, and
+-- makes it sure; writes the content cells, and a journal cell for each posting and one for the bucket, and makes them
+-- sure; and writes the commit cell.
+abbrev pub steps_to_commit : List ℕ → List ℕ → List ListedPosting → ℕ
+steps_to_commit id body rows = 6 + cells_for (length (stored_bytes id body)) + length rows
 
--- the moment is too late: its number is past that of the changes up to the commit cell of slot n
+-- the moment is too late: its number is past that of the steps up to the commit cell of slot n
 pub record IsPastCommit (id : List ℕ) (stamp : Option ℕ) (body : List ℕ) (n : ℕ) (g : Layout) (moment : Moment) : Type 0
   where
     pub rows : List ListedPosting
     pub are : ArePostings g stamp body n rows
-    pub past : IsBelowMoment (changes_to_commit id body rows) moment
+    pub past : IsBelowMoment (steps_to_commit id body rows) moment
 
 -- An ingest is acknowledged though somebody else was to write its outcome cell: then the moment was past the commit.
 abbrev pub CommitsComeFirst : Type 0

@@ -95,7 +95,7 @@ pub fn commits_come_first()
     ensures { CommitsComeFirst }
 {}
 
-/// Where somebody else is to abandon slot 0 before one of the first eight steps of its ingest, that is not acknowledged.
+/// Where somebody else is to abandon slot 0 before one of the first nine steps of its ingest, that is not acknowledged.
 pub fn abandoned_is_not_acknowledged()
     ensures { AbandonedIsNotAcknowledged }
 {}
