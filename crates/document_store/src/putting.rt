@@ -4,7 +4,7 @@ ghost use Rattle.volume_meaning.specs.Slots.{cells_for};
 ghost use Rattle.worm_device.specs.Views.{Viewed};
 ghost use Rattle.append_file.specs.Reading.{IsPosition};
 ghost use Rattle.document_store.specs.Heads.{IsHead};
-ghost use Rattle.document_store.specs.Putting.{FillEnds, PutBodyEnds, PutRestEnds};
+ghost use Rattle.document_store.specs.Putting.{FillEnds, PutBodyEnds, PutRestEnds, put_fault_of};
 
 use crate::head::{Head, read_head};
 use append_file::{ContentFault, Position, read_byte};
@@ -25,6 +25,17 @@ pub(crate) enum PutFault {
     SinkFault,
 }
 
+impl From<ContentFault> for PutFault {
+    ghost from_gives = { λ fault result. result ≡ put_fault_of fault };
+
+    fn from(fault: ContentFault) -> PutFault {
+        match fault {
+            ContentFault::Broken => PutFault::Broken,
+            ContentFault::ReadFault => PutFault::ReadFault,
+        }
+    }
+}
+
 /// Puts the body of the document in a part of so many stored bytes from `start` on, and answers what stands before it.
 /// Reads each cell once.
 pub(crate) fn put_document<V: View, K: Sink>(
@@ -40,15 +51,9 @@ pub(crate) fn put_document<V: View, K: Sink>(
         result }
 {
     let mut position = Position::new(start, bytes);
-    let head = match read_head(view, start, bytes, &mut position) {
-        Ok(head) => head,
-        Err(ContentFault::Broken) => return Err(PutFault::Broken),
-        Err(ContentFault::ReadFault) => return Err(PutFault::ReadFault),
-    };
-    match put_body(view, start, bytes, &mut position, &head, sink) {
-        Ok(()) => Ok(head),
-        Err(fault) => Err(fault),
-    }
+    let head = read_head(view, start, bytes, &mut position)?;
+    put_body(view, start, bytes, &mut position, &head, sink)?;
+    Ok(head)
 }
 
 /// Puts the body behind a head.
@@ -75,11 +80,7 @@ fn put_body<V: View, K: Sink>(
     while put < head.body_length {
         let count = PIECE_BYTES.min(head.body_length - put);
         let piece = &mut buffer[..count as usize];
-        match fill(view, position, piece) {
-            Ok(()) => {}
-            Err(ContentFault::Broken) => return Err(PutFault::Broken),
-            Err(ContentFault::ReadFault) => return Err(PutFault::ReadFault),
-        }
+        fill(view, position, piece)?;
         let Ok(()) = put_all(sink, piece) else {
             return Err(PutFault::SinkFault);
         };

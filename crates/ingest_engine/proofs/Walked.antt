@@ -28,7 +28,7 @@ use Rattle.tamper_rules.proofs.Images.{same_image}
 use Rattle.ingest_plan.specs.declared.plan.PlannedIndex.{PlannedIndex}
 use Rattle.ingest_engine.specs.Indexing.{FindsSlot, SeeksPathEnd, IsStampPast, LooksPast, PastEnds, PathLookEnds, PlanForEnds, PlansFor, WalksDevice, WalksOn}
 use Rattle.ingest_engine.proofs.Trails.{has_trail_on, none_before}
-use Rattle.ingest_engine.specs.declared.indexing.PathEnd.{PathEnd}
+use Rattle.ingest_plan.specs.declared.place.PathEnd.{PathEnd}
 
 -- a walk over a loan of the device is one on the device
 pub device_walks : (r : Ready) (id : List ℕ) {entry new : DeviceState} {lent back : ℕ}
@@ -180,7 +180,8 @@ module _ (r : Ready) (id : List ℕ) (stamp : Option ℕ) (body : List ℕ) (ent
 
   -- planning was ended
   pub unplanned : (refusal : Refusal)
-      → PlansIndex r.volume.geometry r.horizon r.edge end.level end.place stamp body walked new (Err refusal)
+      → PlansIndex r.volume.geometry (record { slot = r.horizon; edge = r.edge; end = end }) stamp body walked new
+      (Err refusal)
       → PlansFor r id stamp body entry new (Err refusal)
   unplanned refusal plans = record {
     called = called_then path.called plans.called;
@@ -230,7 +231,8 @@ module _ (r : Ready) (id : List ℕ) (stamp : Option ℕ) (body : List ℕ) (ent
 
   -- or it is done
   pub planned : (index : PlannedIndex)
-      → PlansIndex r.volume.geometry r.horizon r.edge end.level end.place stamp body walked new (Ok index)
+      → PlansIndex r.volume.geometry (record { slot = r.horizon; edge = r.edge; end = end }) stamp body walked new
+      (Ok index)
       → PlansFor r id stamp body entry new (Ok index)
   planned index plans = record {
     called = called_then path.called plans.called;

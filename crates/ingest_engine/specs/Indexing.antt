@@ -24,7 +24,7 @@ use Rattle.identifier_lookup.specs.declared.answers.Walk.TheVariants as walks
 use Rattle.ingest_plan.specs.Planning.{IsGrowthRule, IsLater, IsPlanned}
 use Rattle.ingest_plan.specs.declared.plan.PlannedIndex.{PlannedIndex}
 use Rattle.ingest_engine.specs.Stamps.{AreUpTo, IsInLogBelow, IsStampBelow, GreatestStampEnds}
-use Rattle.ingest_engine.specs.declared.indexing.PathEnd.{PathEnd}
+use Rattle.ingest_plan.specs.declared.place.PathEnd.{PathEnd}
 
 -- a walk along the identifier's path on the device answers so
 abbrev pub WalksOn : Ready → List ℕ → DeviceState → DeviceState → Walk → Type 0

@@ -6,19 +6,11 @@ ghost use Rattle.term_tags.specs.Listing.{MayHaveStamp};
 
 use crate::stamps::check_later;
 use cell_types::{Fault, Refusal};
-use hash_tree::{Level, Open};
 use identifier_lookup::{Walk, walk};
-use ingest_plan::{PlannedIndex, plan_index};
+use ingest_plan::{IndexPlace, PathEnd, PlannedIndex, plan_index};
 use recovery_engine::Ready;
 use std::alloc::Global;
 use worm_device::{Device, Direct};
-
-/// Where the path of an identifier ends: its entry goes there.
-#[derive(Clone, Copy)]
-pub struct PathEnd {
-    pub place: Open,
-    pub level: Level,
-}
 
 /// Plans the index of a document for the slot at the horizon of a volume that was settled. The device is only read.
 ///
@@ -42,17 +34,12 @@ pub fn plan_for<D: Device>(
 {
     check_later(device, ready, stamp)?;
     let end = path_end(device, ready, id)?;
-    let index = plan_index(
-        alloc,
-        device,
-        &ready.volume,
-        ready.horizon,
-        ready.edge,
-        end.place,
-        &end.level,
-        stamp,
-        body,
-    )?;
+    let place = IndexPlace {
+        slot: ready.horizon,
+        edge: ready.edge,
+        end,
+    };
+    let index = plan_index(alloc, device, &ready.volume, &place, stamp, body)?;
     Ok(index)
 }
 

@@ -32,6 +32,7 @@ use Rattle.ingest_plan.proofs.Counting.{count_is_one, none_planned}
 use Rattle.ingest_plan.proofs.Granted.{StaysQuiet}
 use Rattle.ingest_plan.specs.Over.{IsPlannedOver, OverEnds, PlansOver}
 use Rattle.ingest_plan.specs.Planning.{KeepsDocument, PlanEnds, PlansIndex, StandsAtCost, cut_at, laid_over}
+use Rattle.ingest_plan.specs.declared.place.IndexPlace.{IndexPlace}
 use Rattle.ingest_plan.specs.declared.plan.PlannedIndex.{PlannedIndex}
 use Rattle.ingest_plan.proofs.Licence.{names_cell}
 use Rattle.ingest_plan.proofs.Postings.{few, in_order, past}
@@ -107,14 +108,14 @@ journal_each {rows = rows} {p = p} {new = new} nothing h =
     (omega (arith, count, taken.2), omega (arith, count, taken.3))
 
 -- what the rows are, whose words are the body's, gives what is said of the device
-pub plans_index : (g : Layout) (n edge : ℕ) (stamp : Option ℕ) (body : List ℕ) (rows : List ListedPosting) (level : Level) (place : Open)
+pub plans_index : (g : Layout) (index : IndexPlace) (stamp : Option ℕ) (body : List ℕ) (rows : List ListedPosting)
     (start : DeviceState) (old new : ViewState) (result : Result PlannedIndex Refusal) (done : DeviceState)
-    → ArePostings g stamp body n rows → edge ≤ g.cells
-    → PlansOver g n edge rows level place old new result
+    → ArePostings g stamp body index.slot rows → index.edge ≤ g.cells
+    → PlansOver g index rows old new result
     → old.base ≡ start → done ≡ new.base → new.lower ≡ new.base.image
-    → IsView old → ((cell : ℕ) → old.planned cell ≡ None) → old.fresh ≡ edge → old.lower ≡ start.image
-    → PlansIndex g n edge level place stamp body start done result
-plans_index g n edge stamp body rows level place start old new result done are inside over begins ends below view nothing
+    → IsView old → ((cell : ℕ) → old.planned cell ≡ None) → old.fresh ≡ index.edge → old.lower ≡ start.image
+    → PlansIndex g index stamp body start done result
+plans_index g index stamp body rows start old new result done are inside over begins ends below view nothing
     fresh lower = record {
       called = subst (λ (d : DeviceState). Called start d) (sym ends)
           (subst (λ (d : DeviceState). Called d new.base) begins over.called);
@@ -131,8 +132,8 @@ plans_index g n edge stamp body rows level place start old new result done are i
       there : done.image ≡ new.lower
       there = ap (λ (d : DeviceState). d.image) ends ∙ sym below
 
-      shown : old.image ≡ cut_at edge start.image
-      shown = shows_cut edge start.image old view nothing fresh lower
+      shown : old.image ≡ cut_at index.edge start.image
+      shown = shows_cut index.edge start.image old view nothing fresh lower
 
       still_then : IsStill start.foreign_writes done.foreign_writes
           → IsStill old.base.foreign_writes new.base.foreign_writes
@@ -140,31 +141,31 @@ plans_index g n edge stamp body rows level place start old new result done are i
           subst (λ (d : DeviceState). IsStill d.foreign_writes new.base.foreign_writes) (sym begins)
           (subst (λ (d : DeviceState). IsStill start.foreign_writes d.foreign_writes) ends still)
 
-      why : (result : Result PlannedIndex Refusal) → OverEnds g n edge rows level place old new result
-          → PlanEnds g n edge level place stamp body start done result
+      why : (result : Result PlannedIndex Refusal) → OverEnds g index.slot index.edge rows index.end.level index.end.place old new result
+          → PlanEnds g index.slot index.edge index.end.level index.end.place stamp body start done result
       why (Ok p) h = record {
         rows = rows;
         are = are;
-        few = few g stamp body n rows are;
+        few = few g stamp body index.slot rows are;
         least = (journal_each nothing h).0;
         most = omega (arith, (journal_each nothing h).1, h.blocks);
         planned = new.planned;
         journal = h.journal;
         grants = h.indexed.grants;
-        keeps = λ tells. subst (λ (i : Image). KeepsDocument g n stamp body level place (edge + p.block_length) i new.planned) (sym there)
-            (keeps g n stamp body rows level place edge (edge + p.block_length) old new are h.indexed (told tells));
+        keeps = λ tells. subst (λ (i : Image). KeepsDocument g index.slot stamp body index.end.level index.end.place (index.edge + p.block_length) i new.planned) (sym there)
+            (keeps g index.slot stamp body rows index.end.level index.end.place index.edge (index.edge + p.block_length) old new are h.indexed (told tells));
         blank = λ tells.
-            subst (λ (i : Image). i (blank_of place) ≡ None → (cell : ℕ) (value : List ℕ) → new.planned cell ≡ Some value
+            subst (λ (i : Image). i (blank_of index.end.place) ≡ None → (cell : ℕ) (value : List ℕ) → new.planned cell ≡ Some value
             → i cell ≡ None) shown (h.indexed.blank (told tells));
         stands = λ tells still.
-            subst (λ (i : Image). (bound behind : ℕ → ℕ) → HasKeysBetween rows bound behind → ListsStand g i edge bound
-            → StandsAtCost g n edge behind rows level place p i new.planned)
+            subst (λ (i : Image). (bound behind : ℕ → ℕ) → HasKeysBetween rows bound behind → ListsStand g i index.edge bound
+            → StandsAtCost g index.slot index.edge behind rows index.end.level index.end.place p i new.planned)
             shown
             (λ bound behind between lists. stands_at_cost (h.indexed.shows (still_then still)) h.journal.is
             (h.indexed.stands (told tells) (still_then still) bound behind between lists));
       }
       why (Err (refusals.Tampered e)) h = λ tells.
-          names_cell body start done are.exist (in_order g stamp body n rows are) (past g stamp body n rows are) inside
+          names_cell body start done are.exist (in_order g stamp body index.slot rows are) (past g stamp body index.slot rows are) inside
           (subst IsTrue (sym over.called.tells) (told tells)) (sym lower) there quiet (h (told tells))
       why (Err refusals.DeviceFault) h =
           omega (arith, h, ap (λ (d : DeviceState). d.faults) begins, ap (λ (d : DeviceState). d.faults) ends)
@@ -195,19 +196,19 @@ planned_over g n edge from next rows level place p old new held begins ends most
 }
 
 -- why nothing was planned
-pub plan_refused : (g : Layout) (n edge from next : ℕ) (rows : List ListedPosting) (level : Level) (place : Open)
-    (old new : ViewState) (fault : GrowthFault) → IsView new → old.fresh ≡ edge
-    → Indexes g n rows level place from next old new (Err fault)
-    → PlansOver g n edge rows level place old new (Err (refusal_of_growth fault))
-plan_refused g n edge from next rows level place old new fault view fresh indexes = record {
+pub plan_refused : (g : Layout) (index : IndexPlace) (from next : ℕ) (rows : List ListedPosting) (old new : ViewState)
+    (fault : GrowthFault) → IsView new → old.fresh ≡ index.edge
+    → Indexes g index.slot rows index.end from next old new (Err fault)
+    → PlansOver g index rows old new (Err (refusal_of_growth fault))
+plan_refused g index from next rows old new fault view fresh indexes = record {
   called = indexes.called;
   quiet = indexes.quiet;
   fresh = indexes.fresh;
   loans = indexes.loans;
   ends = why fault indexes.ends;
 } where
-  why : (fault : GrowthFault) → IndexEnds g n rows level place from next old new (Err fault)
-      → OverEnds g n edge rows level place old new (Err (refusal_of_growth fault))
+  why : (fault : GrowthFault) → IndexEnds g index.slot rows index.end.level index.end.place from next old new (Err fault)
+      → OverEnds g index.slot index.edge rows index.end.level index.end.place old new (Err (refusal_of_growth fault))
   why (growth.Fault (faults.Tampered e)) h = λ tells.
       let named = h tells in
       record { view = view; fresh = indexes.fresh ∙ fresh; is = named.0; licensable = named.1 }

@@ -36,6 +36,7 @@ use Rattle.hash_tree.specs.Inserting.{InsertsEntry, IsEntryInserted, IsPlaceTake
 use Rattle.hash_tree.specs.Readiness.{IsReadyPlace, blank_in, blank_of, cost_of, owner_in}
 use Rattle.hash_tree.specs.Rooting.{IsRooted, IsRootedBefore}
 use Rattle.ingest_plan.specs.Granting.{GivesWhatIsLedTo, to_node}
+use Rattle.ingest_plan.specs.declared.place.PathEnd.{PathEnd}
 use Rattle.ingest_plan.specs.Indexes.{IndexEnds, IndexStandsAtCost, Indexes, HoldsIndexRecord, IsIndexed, in_list, in_tree}
 use Rattle.ingest_plan.specs.Rows.{AreInOrder, AreInserted, InsertsRow, IsRowCell, of_posting, of_pointer, LiesInLists, in_first, in_pool}
 use Rattle.ingest_plan.specs.Counts.{PlansAtCost}
@@ -327,10 +328,10 @@ taken_still g level place mid new e same lower base t = record {
 }
 
 -- the postings were refused
-pub row_ends : (g : Layout) (n : ℕ) (rows : List ListedPosting) (level : Level) (place : Open) (from to : ℕ)
+pub row_ends : (g : Layout) (n : ℕ) (rows : List ListedPosting) (end : PathEnd) (from to : ℕ)
     (old new : ViewState) (fault : GrowthFault) → ((cell : ℕ) → old.planned cell ≡ None)
-    → InsertsRow g rows from to old new (Err fault) → Indexes g n rows level place from to old new (Err fault)
-row_ends g n rows level place from to old new fault nothing inserts = record {
+    → InsertsRow g rows from to old new (Err fault) → Indexes g n rows end from to old new (Err fault)
+row_ends g n rows end from to old new fault nothing inserts = record {
   called = inserts.called;
   cells = inserts.cells;
   fresh = inserts.fresh;
@@ -340,19 +341,19 @@ row_ends g n rows level place from to old new fault nothing inserts = record {
   ends = why fault inserts;
 } where
   why : (fault : GrowthFault) → InsertsRow g rows from to old new (Err fault)
-      → IndexEnds g n rows level place from to old new (Err fault)
+      → IndexEnds g n rows end.level end.place from to old new (Err fault)
   why (Fault faults.Failed) inserts = inserts.ends
   why (Fault (faults.Tampered e)) inserts = λ tells.
       let h = inserts.ends tells in (in_list h.0.0 h.0.1 h.0.2 h.0.3, h.1 nothing)
   why (NoMemory lack) inserts = tt
 
 -- the postings were inserted, and then the bucket was planned or refused
-pub entry_ends : (g : Layout) (n : ℕ) (rows : List ListedPosting) (level : Level) (place : Open) (from next : ℕ)
+pub entry_ends : (g : Layout) (n : ℕ) (rows : List ListedPosting) (end : PathEnd) (from next : ℕ)
     (pool rest : Pool) (old mid new : ViewState) (result : Result ℕ GrowthFault) (answer : Result Unit GrowthFault)
-    → InsertsRow g rows from next old mid (Ok tt) → InsertsEntry g level place n pool rest mid new result
-    → IndexEnds g n rows level place from rest.next old new answer
-    → Indexes g n rows level place from rest.next old new answer
-entry_ends g n rows level place from next pool rest old mid new result answer row entry ends = record {
+    → InsertsRow g rows from next old mid (Ok tt) → InsertsEntry g end.level end.place n pool rest mid new result
+    → IndexEnds g n rows end.level end.place from rest.next old new answer
+    → Indexes g n rows end from rest.next old new answer
+entry_ends g n rows end from next pool rest old mid new result answer row entry ends = record {
   called = subst (λ (b : DeviceState). Called old.base b) (sym entry.base) row.called;
   cells = entry.cells ∙ row.cells;
   fresh = entry.fresh ∙ row.fresh;

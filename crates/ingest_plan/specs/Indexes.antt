@@ -24,6 +24,7 @@ use Rattle.ingest_plan.specs.Counts.{HasWrittenCells, PlansOneOrTwoEach}
 use Rattle.ingest_plan.specs.Granting.{GivesWhatIsLedTo}
 use Rattle.ingest_plan.specs.Licensing.{IsLicensable}
 use Rattle.ingest_plan.specs.Standing.{HasKeysBetween, IndexStands, ListsStand}
+use Rattle.ingest_plan.specs.declared.place.PathEnd.{PathEnd}
 
 -- the cell of an index record, which is well-formed there, from the first list on
 pub record HoldsIndexRecord (g : Layout) (cell : ℕ) (value : List ℕ) : Type 0 where
@@ -89,12 +90,12 @@ IndexEnds g n rows level place from to old new (Err (NoMemory lack)) = ⊤
 
 -- What planning the index of a document does, where the pool's next cell was this one and is that one. Where nobody else
 -- wrote, the device below stands as it did.
-pub record Indexes (g : Layout) (n : ℕ) (rows : List ListedPosting) (level : Level) (place : Open) (from to : ℕ)
-    (old new : ViewState) (result : Result Unit GrowthFault) : Type 0 where
+pub record Indexes (g : Layout) (n : ℕ) (rows : List ListedPosting) (end : PathEnd) (from to : ℕ) (old new : ViewState)
+    (result : Result Unit GrowthFault) : Type 0 where
   pub called : Called old.base new.base
   pub cells : new.cells ≡ old.cells
   pub fresh : new.fresh ≡ old.fresh
   pub loans : new.loans ≡ old.loans
   pub lower : Extends old.lower new.lower
   pub quiet : IsStill old.base.foreign_writes new.base.foreign_writes → IsUnchanged old.base.image new.base.image
-  pub ends : IndexEnds g n rows level place from to old new result
+  pub ends : IndexEnds g n rows end.level end.place from to old new result

@@ -14,6 +14,7 @@ use Rattle.hash_tree.specs.declared.path.Open.{Open}
 use Rattle.ingest_plan.specs.Indexes.{IsIndexed, IsIndexEvidence}
 use Rattle.ingest_plan.specs.Licensing.{IsLicensable}
 use Rattle.ingest_plan.specs.Planning.{IsJournalBefore}
+use Rattle.ingest_plan.specs.declared.place.IndexPlace.{IndexPlace}
 use Rattle.ingest_plan.specs.declared.plan.PlannedIndex.{PlannedIndex}
 
 -- the index is planned, with at most a block for each posting and a node, and this is its journal
@@ -42,10 +43,10 @@ OverEnds g n edge rows level place old new (Err NoMemory) = ⊤
 OverEnds g n edge rows level place old new (Err refusal) = ⊥
 
 -- what planning over a view does: where nobody else wrote, the device below stands as it did
-pub record PlansOver (g : Layout) (n edge : ℕ) (rows : List ListedPosting) (level : Level) (place : Open) (old new : ViewState)
+pub record PlansOver (g : Layout) (index : IndexPlace) (rows : List ListedPosting) (old new : ViewState)
     (result : Result PlannedIndex Refusal) : Type 0 where
   pub called : Called old.base new.base
   pub quiet : IsStill old.base.foreign_writes new.base.foreign_writes → IsUnchanged old.base.image new.base.image
   pub fresh : new.fresh ≡ old.fresh
   pub loans : new.loans ≡ old.loans
-  pub ends : OverEnds g n edge rows level place old new result
+  pub ends : OverEnds g index.slot index.edge rows index.end.level index.end.place old new result

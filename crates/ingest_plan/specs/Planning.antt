@@ -27,6 +27,7 @@ use Rattle.ingest_plan.specs.Granting.{GivesWhatIsLedTo}
 use Rattle.ingest_plan.specs.Indexes.{HoldsIndexRecord}
 use Rattle.ingest_plan.specs.Journal.{IsJournal}
 use Rattle.ingest_plan.specs.Standing.{HasKeysBetween, IndexStands, ListsStand}
+use Rattle.ingest_plan.specs.declared.place.IndexPlace.{IndexPlace}
 use Rattle.ingest_plan.specs.declared.plan.PlannedIndex.{PlannedIndex}
 
 -- The journal copies index cells alone, which lie from the first list on and before this cell.
@@ -120,8 +121,8 @@ PlanEnds g n edge level place stamp body old new (Err NoMemory) = ⊤
 PlanEnds g n edge level place stamp body old new (Err refusal) = ⊥
 
 -- What planning does: it reads alone, so that where nobody else wrote the device stands as it did.
-pub record PlansIndex (g : Layout) (n edge : ℕ) (level : Level) (place : Open) (stamp : Option ℕ) (body : List ℕ)
-    (old new : DeviceState) (result : Result PlannedIndex Refusal) : Type 0 where
+pub record PlansIndex (g : Layout) (index : IndexPlace) (stamp : Option ℕ) (body : List ℕ) (old new : DeviceState)
+    (result : Result PlannedIndex Refusal) : Type 0 where
   pub called : Called old new
   pub quiet : IsStill old.foreign_writes new.foreign_writes → IsUnchanged old.image new.image
-  pub ends : PlanEnds g n edge level place stamp body old new result
+  pub ends : PlanEnds g index.slot index.edge index.end.level index.end.place stamp body old new result

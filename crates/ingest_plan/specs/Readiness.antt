@@ -7,26 +7,25 @@ use Rattle.cell_pool.specs.Grants.{free_cells}
 use Rattle.cell_pool.specs.declared.pool.Pool.{Pool}
 use Rattle.hash_tree.specs.Levels.{IsLedByChild, IsNodeWithin}
 use Rattle.hash_tree.specs.Steps.{IsOpenOf}
-use Rattle.hash_tree.specs.declared.level.Level.{Level}
-use Rattle.hash_tree.specs.declared.path.Open.{Open}
 use Rattle.jump_insertion.specs.Readiness.{IsReadyList}
 use Rattle.term_tags.specs.Listing.{MayHaveStamp}
 use Rattle.volume_meaning.specs.Postings.{ListedPosting}
 use Rattle.worm_device.specs.State.{DeviceState}
 use Rattle.worm_device.specs.Views.{ViewState}
 use Rattle.ingest_plan.specs.Rows.{AreInOrder, AreUntouched}
-use Rattle.ingest_plan.specs.declared.plan.IndexPlace.{IndexPlace}
+use Rattle.ingest_plan.specs.declared.place.IndexPlace.{IndexPlace}
+use Rattle.ingest_plan.specs.declared.place.PathEnd.{PathEnd}
 
--- A path of the tree ends at this place, where slots reserve cells up to the edge.
-pub record IsPathEnd (g : Layout) (edge : ℕ) (level : Level) (place : Open) (tells : Bool) (image : Image) : Type 0 where
+-- A path of the tree ends here, where slots reserve cells up to the edge.
+pub record IsPathEnd (g : Layout) (edge : ℕ) (end : PathEnd) (tells : Bool) (image : Image) : Type 0 where
   -- a path has 64 levels
-  pub number : level.number < 64
+  pub number : end.level.number < 64
   -- the place is one of the level's node
-  pub open_at : IsOpenOf g level place
+  pub open_at : IsOpenOf g end.level end.place
   -- the node is the root, or lies in the pool before the edge
-  pub within : IsNodeWithin g edge level.led_by
+  pub within : IsNodeWithin g edge end.level.led_by
   -- the child cell that led to it stands, where the image is told
-  pub led : IsTrue tells → IsLedByChild image level.led_by
+  pub led : IsTrue tells → IsLedByChild image end.level.led_by
 
 -- A posting may be inserted into its list.
 pub record IsReadyPosting (g : Layout) (row : ListedPosting) (pool : Pool) (s : ViewState) : Type 0 where
@@ -60,9 +59,9 @@ pub record IsReadyRow (g : Layout) (rows : List ListedPosting) (pool : Pool) (s 
   -- and none of a list
   pub untouched : IsTrue s.base.tells → AreUntouched g s
 
--- The whole index of the document of slot n may be planned: its postings, and its bucket at a place.
-pub record IsReadyIndex (g : Layout) (n : ℕ) (rows : List ListedPosting) (level : Level) (place : Open) (pool : Pool)
-    (s : ViewState) : Type 0 where
+-- The whole index of the document of slot n may be planned: its postings, and its bucket at the end of a path.
+pub record IsReadyIndex (g : Layout) (n : ℕ) (rows : List ListedPosting) (end : PathEnd) (pool : Pool) (s : ViewState)
+    : Type 0 where
   -- the slot is one that a volume may have
   pub slot : n < MAX_SLOTS
   -- the postings come by list and key
@@ -75,8 +74,8 @@ pub record IsReadyIndex (g : Layout) (n : ℕ) (rows : List ListedPosting) (leve
   pub room : 256 * length rows + 32 ≤ free_cells pool
   -- nothing is planned yet
   pub nothing : (cell : ℕ) → s.planned cell ≡ None
-  -- the path of its identifier ends at the place
-  pub path : IsPathEnd g s.fresh level place s.base.tells s.lower
+  -- the path of its identifier ends there
+  pub path : IsPathEnd g s.fresh end s.base.tells s.lower
 
 -- A document's index may be planned over a view, from the edge on.
 pub record IsReadyOver (g : Layout) (index : IndexPlace) (s : ViewState) : Type 0 where
@@ -90,21 +89,20 @@ pub record IsReadyOver (g : Layout) (index : IndexPlace) (s : ViewState) : Type 
   pub fresh : s.fresh ≡ index.edge
   -- nothing is planned yet
   pub nothing : (cell : ℕ) → s.planned cell ≡ None
-  -- the path of the document's identifier ends at the place
-  pub path : IsPathEnd g index.edge index.level index.place s.base.tells s.lower
+  -- the path of the document's identifier ends at its place
+  pub path : IsPathEnd g index.edge index.end s.base.tells s.lower
 
--- The index of a document of slot n, with this stamp, may be planned over a device, where slots reserve cells up to the edge.
-pub record IsReadyDevice (g : Layout) (n edge : ℕ) (level : Level) (place : Open) (stamp : Option ℕ) (s : DeviceState)
-    : Type 0 where
+-- The index of a document with this stamp may be planned over a device, where slots reserve cells up to its edge.
+pub record IsReadyDevice (g : Layout) (index : IndexPlace) (stamp : Option ℕ) (s : DeviceState) : Type 0 where
   -- the slot is one that a volume may have
-  pub slot : n < MAX_SLOTS
+  pub slot : index.slot < MAX_SLOTS
   -- the stamp is one that a volume of the version may have
   pub stamped : MayHaveStamp g stamp
   -- the device has the volume's cells
   pub size : g.cells ≤ s.cells
   -- the edge is the pool's start at least
-  pub from : pool_at g ≤ edge
+  pub from : pool_at g ≤ index.edge
   -- and the volume's end at most
-  pub to : edge ≤ g.cells
-  -- the path of the document's identifier ends at the place
-  pub path : IsPathEnd g edge level place s.tells s.image
+  pub to : index.edge ≤ g.cells
+  -- the path of the document's identifier ends at its place
+  pub path : IsPathEnd g index.edge index.end s.tells s.image

@@ -40,12 +40,14 @@
 
 mod journal;
 mod laws;
+mod place;
 mod plan;
 mod rows;
 mod whole;
 
 pub use journal::copies_of;
 pub use laws::count_is_one;
+pub use place::{IndexPlace, PathEnd};
 pub use plan::{PlannedIndex, plan_index};
 pub use rows::insert_postings;
 pub use whole::insert_document;

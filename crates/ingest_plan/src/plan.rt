@@ -6,10 +6,9 @@ ghost use Rattle.ingest_plan.specs.Readiness.{IsReadyDevice, IsReadyOver};
 ghost use Rattle.ingest_plan.specs.Rows.{AreInOrder};
 ghost use Rattle.worm_device.specs.Overlays.{of_overlay};
 
-use crate::{copies_of, insert_document};
+use crate::{IndexPlace, copies_of, insert_document};
 use cell_pool::Pool;
 use cell_types::{Cell, Refusal, Volume};
-use hash_tree::{Level, Open};
 use std::alloc::Global;
 use term_tags::{ListedPosting, document_postings};
 use volume_meaning::rule_of;
@@ -25,47 +24,25 @@ pub struct PlannedIndex {
     pub journal: Vec<Cell>,
 }
 
-/// Where the index of a document goes.
-#[derive(Clone, Copy)]
-struct IndexPlace {
-    /// The document's slot.
-    slot: u32,
-    /// From this cell on new blocks lie.
-    edge: u32,
-    /// Where the path of its identifier ends.
-    place: Open,
-    /// The node of that place.
-    level: Level,
-}
-
-/// Plans the index of a document with this body in a slot: its postings, with that of its stamp on a volume of stamped
-/// documents, and its bucket at the place where the path of its identifier ends. New blocks begin at the edge, and may pass
-/// the device's end.
+/// Plans the index of a document with this body where it goes: its postings, with that of its stamp on a volume of
+/// stamped documents, and its bucket at the place where the path of its identifier ends. New blocks begin at the edge, and
+/// may pass the device's end.
 pub fn plan_index<D: Device>(
     alloc: Global,
     device: &mut D,
     volume: &Volume,
-    slot: u32,
-    edge: u32,
-    place: Open,
-    level: &Level,
+    index: &IndexPlace,
     stamp: Option<u32>,
     body: &[u8],
 ) -> Result<PlannedIndex, Refusal>
-    requires { IsReadyDevice volume.now.geometry slot edge level.now place stamp (D.state device.old) }
-    ensures { PlansIndex volume.now.geometry slot edge level.now place stamp body.now (D.state device.old)
-        (D.state device.new) result }
+    requires { IsReadyDevice volume.now.geometry index.now stamp (D.state device.old) }
+    ensures { PlansIndex volume.now.geometry index.now stamp body.now (D.state device.old) (D.state device.new)
+        result }
 {
     let terms = words(alloc, body, rule_of(volume.geometry.version()))?;
-    let rows = document_postings(alloc, &terms, volume.geometry.lists(), slot, stamp)?;
+    let rows = document_postings(alloc, &terms, volume.geometry.lists(), index.slot, stamp)?;
     let mut own = PlannedCells::new(alloc);
-    let mut overlay = Overlay::new(Direct::new(device), &mut own, edge);
-    let index = IndexPlace {
-        slot,
-        edge,
-        place,
-        level: *level,
-    };
+    let mut overlay = Overlay::new(Direct::new(device), &mut own, index.edge);
     plan_over(alloc, &mut overlay, volume, index, &rows)
 }
 
@@ -74,27 +51,19 @@ fn plan_over<V: View>(
     alloc: Global,
     overlay: &mut Overlay<'_, V>,
     volume: &Volume,
-    index: IndexPlace,
+    index: &IndexPlace,
     rows: &[ListedPosting],
 ) -> Result<PlannedIndex, Refusal>
     requires order { AreInOrder volume.now.geometry rows.now }
     requires few { length rows.now ≤ 256 * volume.now.geometry.lists + 1 }
-    requires ready { IsReadyOver volume.now.geometry index (of_overlay V.seen overlay.old) }
-    ensures { PlansOver volume.now.geometry index.slot index.edge rows.now index.level index.place
-        (of_overlay V.seen overlay.old) (of_overlay V.seen overlay.new) result }
+    requires ready { IsReadyOver volume.now.geometry index.now (of_overlay V.seen overlay.old) }
+    ensures { PlansOver volume.now.geometry index.now rows.now (of_overlay V.seen overlay.old)
+        (of_overlay V.seen overlay.new) result }
 {
     // Known of a layout once it is asked for: it fits a device.
     let _cells = volume.geometry.cells();
     let mut pool = Pool::over(index.edge, u32::MAX);
-    insert_document(
-        overlay,
-        &mut pool,
-        volume,
-        index.slot,
-        rows,
-        index.place,
-        &index.level,
-    )?;
+    insert_document(overlay, &mut pool, volume, index.slot, rows, &index.end)?;
     let journal = copies_of(alloc, overlay.planned())?;
     Ok(PlannedIndex {
         block_length: pool.next() - index.edge,

@@ -56,6 +56,12 @@ pub with_fronts : {old new : Image} {kept : KeptSearch} {fronts : KeptFronts} �
     → IsSearchKept new (record { fronts = fronts; hops = kept.hops; row = kept.row })
 with_fronts e k known = record { fronts = known; row = row_on e k.row; hops = hops_on e k.hops }
 
+-- so does a row, where one of the fronts has changed
+pub with_front : {old new : Image} {kept : KeptSearch} {fronts : KeptFronts} {row : KeptRow} → Extends old new
+    → IsSearchKept old kept → (AreFrontsKept new kept.fronts → AreFrontsKept new fronts) → IsRowKept new row
+    → IsSearchKept new (record { fronts = fronts; hops = kept.hops; row = row })
+with_front e k changes known = record { fronts = changes (kept_on e k.fronts); row = known; hops = hops_on e k.hops }
+
 -- and hops those that were
 pub with_hops : {image : Image} {kept : KeptSearch} {hops : KeptHops} → IsSearchKept image kept → AreHopsKept image hops
     → IsSearchKept image (record { fronts = kept.fronts; hops = hops; row = kept.row })

@@ -15,7 +15,7 @@ use Rattle.worm_device.specs.Views.{ViewState, Viewed, IsView}
 use Rattle.worm_device.specs.declared.owner.Owner.{Owner}
 use Rattle.worm_device.proofs.Elapsing.{called_then}
 use Rattle.worm_device.proofs.Images.{extends_then, extends_self}
-use Rattle.worm_device.proofs.Resting.{rests_of, viewed_then}
+use Rattle.worm_device.proofs.Resting.{viewed_self, viewed_then}
 use Rattle.jump_block.specs.Fronts.{FirstEnds}
 use Rattle.jump_block.specs.Spans.{IsSpan}
 use Rattle.jump_block.specs.declared.known_front.Front.TheVariants.{Open}
@@ -28,7 +28,7 @@ use Rattle.cell_pool.specs.declared.fault.GrowthFault.{GrowthFault}
 use Rattle.cell_pool.specs.declared.fault.GrowthFault.TheVariants.{Fault, NoMemory}
 use Rattle.cell_pool.specs.declared.pool.Pool.{Pool}
 use Rattle.jump_insertion.specs.Hopping.{IsAt, IsSpot, HopFaultEnds, TailEnds}
-use Rattle.jump_insertion.specs.Placing.{PlacesPosting}
+use Rattle.jump_insertion.specs.Placing.{PlacePostingEnds, PlacesPosting}
 use Rattle.jump_insertion.specs.Planning.{PutsRecord}
 use Rattle.jump_insertion.specs.Readiness.{IsOwnBlock, IsBlockReached, is_new, a_posting, a_pointer, IsReadyList}
 use Rattle.jump_insertion.specs.Steps.{PlacesFrom, PutsWithPointer}
@@ -92,6 +92,38 @@ places_differ target block place level digit apart below levels some digits is =
     (λ behind. omega (arith, behind, below, levels, some, digits, is))
     apart
 
+-- an insertion that reads, and then at most plans cells
+planned_after : {head floor to block low bound : ℕ} {p : PostingFields} {old mid new : ViewState}
+    {result : Result (Option Spot) GrowthFault} → Viewed old mid → new.cells ≡ mid.cells → new.fresh ≡ mid.fresh
+    → new.loans ≡ mid.loans → new.lower ≡ mid.lower → new.base ≡ mid.base
+    → PlacePostingEnds head floor to block p low bound old new result
+    → PlacesPosting head floor to block p low bound old new result
+planned_after {mid = mid} {new = new} viewed cells fresh loans lower base ends = record {
+  called = called_on viewed.called base;
+  cells = cells ∙ viewed.cells;
+  fresh = fresh ∙ viewed.fresh;
+  loans = loans ∙ viewed.loans;
+  lower = extends_then viewed.lower (same_extends mid.lower new.lower lower);
+  quiet = quiet_on viewed base;
+  ends = ends;
+}
+
+-- an insertion in or behind a block after reads, which is one in or behind another
+placed_after : {head floor to block behind low bound a b : ℕ} {p : PostingFields} {old mid new : ViewState}
+    {placed result : Result (Option Spot) GrowthFault} → Viewed old mid
+    → PlacesPosting head floor to behind p a b mid new placed
+    → PlacePostingEnds head floor to block p low bound old new result
+    → PlacesPosting head floor to block p low bound old new result
+placed_after viewed placed ends = record {
+  called = called_then viewed.called placed.called;
+  cells = placed.cells ∙ viewed.cells;
+  fresh = placed.fresh ∙ viewed.fresh;
+  loans = placed.loans ∙ viewed.loans;
+  lower = extends_then viewed.lower placed.lower;
+  quiet = quiet_then viewed placed.called placed.quiet;
+  ends = ends;
+}
+
 -- the posting goes to a blank place of the block
 pub into_open : (head floor next block low bound place : ℕ) (greatest : Option ℕ) (p : PostingFields)
     (old mid new : ViewState) → IsView mid → head + 256 ≤ floor → (block ≡ head) ⊎ (floor ≤ block)
@@ -101,34 +133,27 @@ pub into_open : (head floor next block low bound place : ℕ) (greatest : Option
     → PutsRecord (block + place) (posting_record p) (record { head = head; base = block }) mid new (Ok tt)
     → PlacesPosting head floor next block p low bound old new (Ok (Some (record { block = block; place = place })))
 into_open head floor next block low bound place greatest p old mid new view before lies from below inside viewed read
-    is_at put = record {
-      called = called_on viewed.called put.base;
-      cells = put.cells ∙ viewed.cells;
-      fresh = put.fresh ∙ viewed.fresh;
-      loans = put.loans ∙ viewed.loans;
-      lower = extends_then viewed.lower (same_extends mid.lower new.lower put.lower);
-      quiet = quiet_on viewed put.base;
-      ends = λ tells.
-          let open_ = read.1 tells in
-          let blank : mid.image (block + place) ≡ None = open_.0 in
-          let grown : Extends mid.image new.image = adding_extends (λ c differ. (put.others c differ).0) blank in
-          let there : InFront new.image block place p = next_front new.image block place p
-          (λ before h. let q = open_.1.last before h in (q.0, front_on grown q.1, q.2)) put.ends.shown in
-          let at_old = is_at tells in
-          record {
-            shown = extends_then viewed.image grown;
-            trail = here block place refl read.0 there;
-            has = record { place = place; p = p; in_places = read.0; in_front = there; from = from; below = below };
-            ready = λ key less.
-                ready_put mid new head floor next next p.key key (block + place) block
-                (record { head = head; base = block }) refl refl
-                (λ c differ. (put.others c differ).2) put.ends.for_whom (view.unowned (block + place) put.ends.free)
-                grown (same_extends mid.lower new.lower put.lower) put.fresh (omega arith) (omega (arith, read.0))
-                (ready_viewed viewed head floor next p.key at_old.ready) (omega arith) (omega (arith, less)) inside
-                (apart_from_head before lies) (own_block_viewed viewed head block at_old.own_block)
-                (reached_viewed viewed head floor block at_old.reached) (a_posting place p refl read.0 there less);
-          };
-    }
+    is_at put =
+    planned_after viewed put.cells put.fresh put.loans put.lower put.base (λ tells.
+    let open_ = read.1 tells in
+    let blank : mid.image (block + place) ≡ None = open_.0 in
+    let grown : Extends mid.image new.image = adding_extends (λ c differ. (put.others c differ).0) blank in
+    let there : InFront new.image block place p = next_front new.image block place p
+    (λ before h. let q = open_.1.last before h in (q.0, front_on grown q.1, q.2)) put.ends.shown in
+    let at_old = is_at tells in
+    record {
+      shown = extends_then viewed.image grown;
+      trail = here block place refl read.0 there;
+      has = record { place = place; p = p; in_places = read.0; in_front = there; from = from; below = below };
+      ready = λ key less.
+          ready_put mid new head floor next next p.key key (block + place) block
+          (record { head = head; base = block }) refl refl
+          (λ c differ. (put.others c differ).2) put.ends.for_whom (view.unowned (block + place) put.ends.free)
+          grown (same_extends mid.lower new.lower put.lower) put.fresh (omega arith) (omega (arith, read.0))
+          (ready_viewed viewed head floor next p.key at_old.ready) (omega arith) (omega (arith, less)) inside
+          (apart_from_head before lies) (own_block_viewed viewed head block at_old.own_block)
+          (reached_viewed viewed head floor block at_old.reached) (a_posting place p refl read.0 there less);
+    })
 
 -- the posting may go to this place
 pub record IsTarget (mid : ViewState) (i : Insertion) (next to home : ℕ) (spot : Spot) : Type 0 where
@@ -363,51 +388,30 @@ module _ (pool : Pool) (i : Insertion) (full : Home) (to : ℕ) (old mid new : V
     -- the call that plans both
     pub both_places : (result : Result (Option Spot) GrowthFault)
         → PutsWithPointer i full spot mid new result → PlacesFrom i full.visit to old new result
-    both_places (Ok (Some found)) both = record {
-      called = called_on viewed.called both.base;
-      cells = both.cells ∙ viewed.cells;
-      fresh = both.fresh ∙ viewed.fresh;
-      loans = both.loans ∙ viewed.loans;
-      lower = extends_then viewed.lower (same_extends mid.lower new.lower both.lower);
-      quiet = quiet_on viewed both.base;
-      ends = λ tells.
-          let two = both.ends.1 in
-          let owner : Owner = record { head = i.list.head; base = spot.block } in
-          let home_owner : Owner = record { head = i.list.head; base = full.visit.block } in
-          let there = target.told (subst IsTrue (sym viewed.called.tells) tells) in
-          record {
-            shown = placed_grown two.mid owner home_owner refl refl refl refl two.posting two.jump tells;
-            trail = on full.visit.block spot.block
-                (placed_hop two.mid owner home_owner refl refl refl refl two.posting two.jump tells)
-                (here spot.block spot.place (ap (λ (x : Spot). x.block + x.place) both.ends.0) target.in_places
-                (placed_into two.mid owner home_owner refl refl refl refl two.posting two.jump tells));
-            has = placed_key two.mid owner home_owner refl refl refl refl two.posting two.jump tells;
-            ready = placed_ready two.mid owner home_owner refl refl refl refl two.posting two.jump tells;
-          };
-    }
+    both_places (Ok (Some found)) both =
+        planned_after viewed both.cells both.fresh both.loans both.lower both.base (λ tells.
+        let two = both.ends.1 in
+        let owner : Owner = record { head = i.list.head; base = spot.block } in
+        let home_owner : Owner = record { head = i.list.head; base = full.visit.block } in
+        let there = target.told (subst IsTrue (sym viewed.called.tells) tells) in
+        record {
+          shown = placed_grown two.mid owner home_owner refl refl refl refl two.posting two.jump tells;
+          trail = on full.visit.block spot.block
+              (placed_hop two.mid owner home_owner refl refl refl refl two.posting two.jump tells)
+              (here spot.block spot.place (ap (λ (x : Spot). x.block + x.place) both.ends.0) target.in_places
+              (placed_into two.mid owner home_owner refl refl refl refl two.posting two.jump tells));
+          has = placed_key two.mid owner home_owner refl refl refl refl two.posting two.jump tells;
+          ready = placed_ready two.mid owner home_owner refl refl refl refl two.posting two.jump tells;
+        })
     both_places (Ok None) both = absurd both.ends
     both_places (Err (Fault Failed)) both = absurd both.ends
-    both_places (Err (Fault (Tampered e))) both = record {
-      called = called_on viewed.called both.base;
-      cells = both.cells ∙ viewed.cells;
-      fresh = both.fresh ∙ viewed.fresh;
-      loans = both.loans ∙ viewed.loans;
-      lower = extends_then viewed.lower (same_extends mid.lower new.lower both.lower);
-      quiet = quiet_on viewed both.base;
-      ends = (
-        λ tells. absurd (both.ends (spot_free tells) (pointer_free tells) (spot_differs tells)),
-        λ tells. absurd (both.ends (spot_free tells) (pointer_free tells) (spot_differs tells)),
-      );
-    }
-    both_places (Err (NoMemory lack)) both = record {
-      called = called_on viewed.called both.base;
-      cells = both.cells ∙ viewed.cells;
-      fresh = both.fresh ∙ viewed.fresh;
-      loans = both.loans ∙ viewed.loans;
-      lower = extends_then viewed.lower (same_extends mid.lower new.lower both.lower);
-      quiet = quiet_on viewed both.base;
-      ends = tt;
-    }
+    both_places (Err (Fault (Tampered e))) both =
+        planned_after viewed both.cells both.fresh both.loans both.lower both.base (
+          λ tells. absurd (both.ends (spot_free tells) (pointer_free tells) (spot_differs tells)),
+          λ tells. absurd (both.ends (spot_free tells) (pointer_free tells) (spot_differs tells)),
+        )
+    both_places (Err (NoMemory lack)) both =
+        planned_after viewed both.cells both.fresh both.loans both.lower both.base tt
 
 -- a new block is one to go to
 pub new_spot : (s : ViewState) → IsView s → (head floor next key block : ℕ) → IsReadyList s head floor next key
@@ -464,125 +468,67 @@ pub into_target : (head floor to block l low bound target : ℕ) (p : PostingFie
     → PlacesPosting head floor to target p s.low s.high mid new (Ok (Some spot))
     → PlacesPosting head floor to block p low bound old new (Ok (Some spot))
 into_target head floor to block l low bound target p s old mid new spot from less below is span_from span_to
-    inside_from inside_to viewed full led placed = record {
-      called = called_then viewed.called placed.called;
-      cells = placed.cells ∙ viewed.cells;
-      fresh = placed.fresh ∙ viewed.fresh;
-      loans = placed.loans ∙ viewed.loans;
-      lower = extends_then viewed.lower placed.lower;
-      quiet = quiet_then viewed placed.called placed.quiet;
-      ends = λ tells.
-          let done = placed.ends (subst IsTrue (sym viewed.called.tells) tells) in
-          let full_new = key_on done.shown (full tells) in
-          record {
-            shown = extends_then viewed.image done.shown;
-            trail = on block target
-                (hop_to new.image floor to block l target p s full_new is span_from span_to
-                (holds_on done.shown (led tells)) inside_from inside_to done.has)
-                done.trail;
-            has = full_has_key full_new from (omega (arith, less, below));
-            ready = done.ready;
-          };
-    }
+    inside_from inside_to viewed full led placed = placed_after viewed placed (λ tells.
+    let done = placed.ends (subst IsTrue (sym viewed.called.tells) tells) in
+    let full_new = key_on done.shown (full tells) in
+    record {
+      shown = extends_then viewed.image done.shown;
+      trail = on block target
+          (hop_to new.image floor to block l target p s full_new is span_from span_to
+          (holds_on done.shown (led tells)) inside_from inside_to done.has)
+          done.trail;
+      has = full_has_key full_new from (omega (arith, less, below));
+      ready = done.ready;
+    })
 
 -- an insertion after reads
 pub place_then : (head floor to block : ℕ) (p : PostingFields) (low bound : ℕ) (old mid new : ViewState)
     → Viewed old mid
     → (result : Result (Option Spot) GrowthFault) → PlacesPosting head floor to block p low bound mid new result
     → PlacesPosting head floor to block p low bound old new result
-place_then head floor to block p low bound old mid new viewed (Ok (Some spot)) placed = record {
-  called = called_then viewed.called placed.called;
-  cells = placed.cells ∙ viewed.cells;
-  fresh = placed.fresh ∙ viewed.fresh;
-  loans = placed.loans ∙ viewed.loans;
-  lower = extends_then viewed.lower placed.lower;
-  quiet = quiet_then viewed placed.called placed.quiet;
-  ends = λ tells.
-      let done = placed.ends (subst IsTrue (sym viewed.called.tells) tells) in
-      record { shown = extends_then viewed.image done.shown; trail = done.trail; has = done.has; ready = done.ready };
-}
-place_then head floor to block p low bound old mid new viewed (Ok None) placed = record {
-  called = called_then viewed.called placed.called;
-  cells = placed.cells ∙ viewed.cells;
-  fresh = placed.fresh ∙ viewed.fresh;
-  loans = placed.loans ∙ viewed.loans;
-  lower = extends_then viewed.lower placed.lower;
-  quiet = quiet_then viewed placed.called placed.quiet;
-  ends = (viewed_then viewed placed.ends.0, λ tells. placed.ends.1 (subst IsTrue (sym viewed.called.tells) tells));
-}
-place_then head floor to block p low bound old mid new viewed (Err (Fault fault)) placed = record {
-  called = called_then viewed.called placed.called;
-  cells = placed.cells ∙ viewed.cells;
-  fresh = placed.fresh ∙ viewed.fresh;
-  loans = placed.loans ∙ viewed.loans;
-  lower = extends_then viewed.lower placed.lower;
-  quiet = quiet_then viewed placed.called placed.quiet;
-  ends = (
-    fault_then head floor p.key old mid new viewed fault placed.ends.0,
-    λ tells. viewed_then viewed (placed.ends.1 (subst IsTrue (sym viewed.called.tells) tells)),
-  );
-}
-place_then head floor to block p low bound old mid new viewed (Err (NoMemory lack)) placed = record {
-  called = called_then viewed.called placed.called;
-  cells = placed.cells ∙ viewed.cells;
-  fresh = placed.fresh ∙ viewed.fresh;
-  loans = placed.loans ∙ viewed.loans;
-  lower = extends_then viewed.lower placed.lower;
-  quiet = quiet_then viewed placed.called placed.quiet;
-  ends = tt;
-}
+place_then head floor to block p low bound old mid new viewed result placed =
+    placed_after viewed placed (why result placed.ends) where
+      told : IsTrue old.base.tells → IsTrue mid.base.tells
+      told tells = subst IsTrue (sym viewed.called.tells) tells
+
+      why : (result : Result (Option Spot) GrowthFault) → PlacePostingEnds head floor to block p low bound mid new result
+          → PlacePostingEnds head floor to block p low bound old new result
+      why (Ok (Some spot)) placed = λ tells.
+          let done = placed (told tells) in
+          record { shown = extends_then viewed.image done.shown; trail = done.trail; has = done.has; ready = done.ready }
+      why (Ok None) none = (viewed_then viewed none.0, λ tells. none.1 (told tells))
+      why (Err (Fault fault)) ends =
+          (fault_then head floor p.key old mid new viewed fault ends.0, λ tells. viewed_then viewed (ends.1 (told tells)))
+      why (Err (NoMemory lack)) ends = tt
 
 -- a refusal behind the target is one behind the block
 pub refused_behind : (head floor to block target a b : ℕ) (p : PostingFields) (low bound : ℕ) (old new : ViewState)
     (fault : GrowthFault)
     → PlacesPosting head floor to target p a b old new (Err fault)
     → PlacesPosting head floor to block p low bound old new (Err fault)
-refused_behind head floor to block target a b p low bound old new (Fault fault) placed = record {
-  called = placed.called;
-  cells = placed.cells;
-  fresh = placed.fresh;
-  loans = placed.loans;
-  lower = placed.lower;
-  quiet = placed.quiet;
-  ends = placed.ends;
-}
-refused_behind head floor to block target a b p low bound old new (NoMemory lack) placed = record {
-  called = placed.called;
-  cells = placed.cells;
-  fresh = placed.fresh;
-  loans = placed.loans;
-  lower = placed.lower;
-  quiet = placed.quiet;
-  ends = placed.ends;
-}
+refused_behind head floor to block target a b p low bound old new fault placed =
+    placed_after (viewed_self old) placed (why fault placed.ends) where
+      why : (fault : GrowthFault) → PlacePostingEnds head floor to target p a b old new (Err fault)
+          → PlacePostingEnds head floor to block p low bound old new (Err fault)
+      why (Fault fault) ends = ends
+      why (NoMemory lack) ends = ends
 
 -- a fault of the reads
 pub read_fault : (head floor to block : ℕ) (p : PostingFields) (low bound : ℕ) (old new : ViewState) (f : fault.Fault)
     → Viewed old new
     → HopFaultEnds head floor p.key old new f → PlacesPosting head floor to block p low bound old new (Err (Fault f))
-read_fault head floor to block p low bound old new f viewed ends = record {
-  called = viewed.called;
-  cells = viewed.cells;
-  fresh = viewed.fresh;
-  loans = viewed.loans;
-  lower = viewed.lower;
-  quiet = (rests_of viewed).below;
-  ends = (ends, λ tells. viewed);
-}
+read_fault head floor to block p low bound old new f viewed ends =
+    planned_after viewed refl refl refl refl refl (ends, λ tells. viewed)
 
 -- the block has no key of the span
 pub no_key_here : (head floor to block l : ℕ) (p : PostingFields) (low bound : ℕ) (old new : ViewState) → Viewed old new
     → (IsTrue old.base.tells → HasFull new.image block l) → l < low
     → PlacesPosting head floor to block p low bound old new (Ok None)
-no_key_here head floor to block l p low bound old new viewed full less = record {
-  called = viewed.called;
-  cells = viewed.cells;
-  fresh = viewed.fresh;
-  loans = viewed.loans;
-  lower = viewed.lower;
-  quiet = (rests_of viewed).below;
-  ends = (viewed, λ tells place q below front. omega (arith, full_at_most (full tells) place q below front, less));
-}
+no_key_here head floor to block l p low bound old new viewed full less =
+    planned_after viewed refl refl refl refl refl (
+      viewed,
+      λ tells place q below front. omega (arith, full_at_most (full tells) place q below front, less),
+    )
 
 -- the cell of the posting was planned already, which a view that tells does not show as blank
 pub one_refused : (head floor to block at : ℕ) (p : PostingFields) (low bound : ℕ) (old mid new : ViewState)
@@ -591,24 +537,10 @@ pub one_refused : (head floor to block at : ℕ) (p : PostingFields) (low bound 
     → PutsRecord at (posting_record p) owner mid new (Err fault)
     → PlacesPosting head floor to block p low bound old new (Err fault)
 one_refused head floor to block at p low bound old mid new owner (Fault Failed) viewed free put = absurd put.ends
-one_refused head floor to block at p low bound old mid new owner (Fault (Tampered e)) viewed free put = record {
-  called = called_on viewed.called put.base;
-  cells = put.cells ∙ viewed.cells;
-  fresh = put.fresh ∙ viewed.fresh;
-  loans = put.loans ∙ viewed.loans;
-  lower = extends_then viewed.lower (same_extends mid.lower new.lower put.lower);
-  quiet = quiet_on viewed put.base;
-  ends = (
-    λ tells. absurd (none-some e.found (sym (free tells) ∙ put.ends.planned)),
-    λ tells. absurd (none-some e.found (sym (free tells) ∙ put.ends.planned)),
-  );
-}
-one_refused head floor to block at p low bound old mid new owner (NoMemory lack) viewed free put = record {
-  called = called_on viewed.called put.base;
-  cells = put.cells ∙ viewed.cells;
-  fresh = put.fresh ∙ viewed.fresh;
-  loans = put.loans ∙ viewed.loans;
-  lower = extends_then viewed.lower (same_extends mid.lower new.lower put.lower);
-  quiet = quiet_on viewed put.base;
-  ends = tt;
-}
+one_refused head floor to block at p low bound old mid new owner (Fault (Tampered e)) viewed free put =
+    planned_after viewed put.cells put.fresh put.loans put.lower put.base (
+      λ tells. absurd (none-some e.found (sym (free tells) ∙ put.ends.planned)),
+      λ tells. absurd (none-some e.found (sym (free tells) ∙ put.ends.planned)),
+    )
+one_refused head floor to block at p low bound old mid new owner (NoMemory lack) viewed free put =
+    planned_after viewed put.cells put.fresh put.loans put.lower put.base tt

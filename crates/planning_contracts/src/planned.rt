@@ -10,8 +10,7 @@ ghost use Rattle.worm_device.specs.Overlays.{of_overlay};
 
 use cell_pool::{GrowthFault, Pool};
 use cell_types::{Cell, NoMemory, Refusal, Volume};
-use hash_tree::{Level, Open};
-use ingest_plan::{PlannedIndex, copies_of, insert_document, plan_index};
+use ingest_plan::{IndexPlace, PathEnd, PlannedIndex, copies_of, insert_document, plan_index};
 use std::alloc::Global;
 use std::collections::BTreeMap;
 use term_tags::ListedPosting;
@@ -22,18 +21,15 @@ pub fn plan_index_again<D: Device>(
     alloc: Global,
     device: &mut D,
     volume: &Volume,
-    slot: u32,
-    edge: u32,
-    place: Open,
-    level: &Level,
+    index: &IndexPlace,
     stamp: Option<u32>,
     body: &[u8],
 ) -> Result<PlannedIndex, Refusal>
-    requires { IsReadyDevice volume.now.geometry slot edge level.now place stamp (D.state device.old) }
-    ensures { PlansIndex volume.now.geometry slot edge level.now place stamp body.now (D.state device.old)
-        (D.state device.new) result }
+    requires { IsReadyDevice volume.now.geometry index.now stamp (D.state device.old) }
+    ensures { PlansIndex volume.now.geometry index.now stamp body.now (D.state device.old) (D.state device.new)
+        result }
 {
-    plan_index(alloc, device, volume, slot, edge, place, level, stamp, body)
+    plan_index(alloc, device, volume, index, stamp, body)
 }
 
 /// `insert_document`.
@@ -43,17 +39,15 @@ pub fn insert_document_again<V: View>(
     volume: &Volume,
     slot: u32,
     rows: &[ListedPosting],
-    place: Open,
-    level: &Level,
+    end: &PathEnd,
 ) -> Result<(), GrowthFault>
-    requires { IsReadyIndex volume.now.geometry slot rows.now level.now place pool.old
-        (of_overlay V.seen overlay.old) }
+    requires { IsReadyIndex volume.now.geometry slot rows.now end.now pool.old (of_overlay V.seen overlay.old) }
     ensures from { pool.old.next ≤ pool.new.next }
     ensures to { pool.new.next ≤ pool.old.next + 256 * length rows.now + 32 }
-    ensures indexes { Indexes volume.now.geometry slot rows.now level.now place pool.old.next pool.new.next
+    ensures indexes { Indexes volume.now.geometry slot rows.now end.now pool.old.next pool.new.next
         (of_overlay V.seen overlay.old) (of_overlay V.seen overlay.new) result }
 {
-    insert_document(overlay, pool, volume, slot, rows, place, level)
+    insert_document(overlay, pool, volume, slot, rows, end)
 }
 
 /// `copies_of`.

@@ -10,8 +10,8 @@ use Rattle.ingest_plan.proofs.plan.plan_index.Goals as goal
 
 pub plan_over-requires-clause-order : goal.plan_over-requires-clause-order
 plan_over-requires-clause-order g c =
-    in_order c.args.volume.now.geometry c.args.stamp c.args.body.now c.args.slot c.deref-2.result.now
-    (given c.args.volume.now.geometry c.args.stamp c.args.body.now c.args.slot c.in_ok-terms.terms.items c.deref.result.now
+    in_order c.args.volume.now.geometry c.args.stamp c.args.body.now c.args.index.now.slot c.deref-2.result.now
+    (given c.args.volume.now.geometry c.args.stamp c.args.body.now c.args.index.now.slot c.in_ok-terms.terms.items c.deref.result.now
     c.in_ok-rows.rows.items c.deref-2.result.now c.requires.stamped (rw (c.rule_of.ensures, c.version.ensures.version) at c.in_ok-terms.ensures) c.deref.ensures.value
     (rw c.lists.ensures.lists at c.in_ok-rows.ensures.ok) c.deref-2.ensures.value)
 
@@ -19,17 +19,17 @@ pub plan_over-requires-clause-few : goal.plan_over-requires-clause-few
 plan_over-requires-clause-few g c =
     omega (
       arith,
-      few c.args.volume.now.geometry c.args.stamp c.args.body.now c.args.slot c.deref-2.result.now
-          (given c.args.volume.now.geometry c.args.stamp c.args.body.now c.args.slot c.in_ok-terms.terms.items c.deref.result.now
+      few c.args.volume.now.geometry c.args.stamp c.args.body.now c.args.index.now.slot c.deref-2.result.now
+          (given c.args.volume.now.geometry c.args.stamp c.args.body.now c.args.index.now.slot c.in_ok-terms.terms.items c.deref.result.now
           c.in_ok-rows.rows.items c.deref-2.result.now c.requires.stamped (rw (c.rule_of.ensures, c.version.ensures.version) at c.in_ok-terms.ensures) c.deref.ensures.value
           (rw c.lists.ensures.lists at c.in_ok-rows.ensures.ok) c.deref-2.ensures.value),
     )
 
 pub returns : goal.returns
 returns g c =
-    plans_index c.args.volume.now.geometry c.args.slot c.args.edge c.args.stamp c.args.body.now c.deref-2.result.now c.args.level.now c.args.place
+    plans_index c.args.volume.now.geometry c.args.index.now c.args.stamp c.args.body.now c.deref-2.result.now
     _ _ _ _ _
-    (given c.args.volume.now.geometry c.args.stamp c.args.body.now c.args.slot c.in_ok-terms.terms.items c.deref.result.now
+    (given c.args.volume.now.geometry c.args.stamp c.args.body.now c.args.index.now.slot c.in_ok-terms.terms.items c.deref.result.now
     c.in_ok-rows.rows.items c.deref-2.result.now c.requires.stamped (rw (c.rule_of.ensures, c.version.ensures.version) at c.in_ok-terms.ensures) c.deref.ensures.value
     (rw c.lists.ensures.lists at c.in_ok-rows.ensures.ok) c.deref-2.ensures.value)
     c.requires.to c.plan_over.ensures (ap (λ view. g.D.Device.state view.device.now) c.new-overlay.ensures.view ∙ ap (λ d. g.D.Device.state d) c.new.ensures.same)

@@ -23,7 +23,7 @@ insert_postings-requires g c = record {
 pub insert-requires-clause-ready : goal.insert-requires-clause-ready
 insert-requires-clause-ready g c =
     let row = c.in_ok-insert_postings.ensures.inserts in
-    tree_is_ready c.args.volume.now.geometry c.args.slot c.args.rows.now c.args.level.now c.args.place c.args.pool.now.next
+    tree_is_ready c.args.volume.now.geometry c.args.slot c.args.rows.now c.args.end.now.level c.args.end.now.place c.args.pool.now.next
     c.insert_postings.new.pool.next
     (of_overlay g.V.View.seen c.args.overlay.now) (of_overlay g.V.View.seen c.insert_postings.new.overlay) c.requires.order
     c.requires.nothing (λ cell. c.args.overlay.now.own.now.owned.unowned cell (c.requires.nothing cell))
@@ -34,7 +34,7 @@ insert-requires-clause-ready g c =
 pub returns-in_err-insert_postings-clause-indexes : goal.returns-in_err-insert_postings-clause-indexes
 returns-in_err-insert_postings-clause-indexes g c =
     rw (handed c.from_residual.result c.in_err-insert_postings.field-0.0 c.from_residual.ensures.1)
-    (row_ends c.args.volume.now.geometry c.args.slot c.args.rows.now c.args.level.now c.args.place c.args.pool.now.next
+    (row_ends c.args.volume.now.geometry c.args.slot c.args.rows.now c.args.end.now c.args.pool.now.next
     c.insert_postings.new.pool.next
     (of_overlay g.V.View.seen c.args.overlay.now) (of_overlay g.V.View.seen c.insert_postings.new.overlay) c.in_err-insert_postings.field-0.0
     c.requires.nothing c.in_err-insert_postings.ensures.inserts)
@@ -43,12 +43,12 @@ pub returns-clause-indexes : goal.returns-clause-indexes
 returns-clause-indexes g c =
     let row = c.in_ok-insert_postings.ensures.inserts in
     let entry = c.in_ok-insert.ensures in
-    entry_ends c.args.volume.now.geometry c.args.slot c.args.rows.now c.args.level.now c.args.place c.args.pool.now.next
+    entry_ends c.args.volume.now.geometry c.args.slot c.args.rows.now c.args.end.now c.args.pool.now.next
     c.insert_postings.new.pool.next
     c.insert_postings.new.pool c.insert.new.pool
     (of_overlay g.V.View.seen c.args.overlay.now) (of_overlay g.V.View.seen c.insert_postings.new.overlay)
     (of_overlay g.V.View.seen c.insert.new.overlay) _ _ row entry
-    (index_is_done c.args.volume.now.geometry c.args.slot c.args.rows.now c.args.level.now c.args.place c.args.pool.now.next
+    (index_is_done c.args.volume.now.geometry c.args.slot c.args.rows.now c.args.end.now.level c.args.end.now.place c.args.pool.now.next
     c.insert_postings.new.pool.next
     (of_overlay g.V.View.seen c.args.overlay.now) (of_overlay g.V.View.seen c.insert_postings.new.overlay) c.requires.order
     c.requires.nothing (λ cell. c.args.overlay.now.own.now.owned.unowned cell (c.requires.nothing cell))
@@ -59,7 +59,7 @@ returns-clause-indexes g c =
     (overlay_shows g.V.View.seen g.met.V.View.proper c.args.overlay.now)
     (overlay_shows g.V.View.seen g.met.V.View.proper c.insert_postings.new.overlay)
     (overlay_shows g.V.View.seen g.met.V.View.proper c.insert.new.overlay) entry.lower entry.base
-    (taken_on c.args.volume.now.geometry c.args.level.now c.args.place c.args.slot c.in_ok-insert.field-0 c.insert_postings.new.pool c.insert.new.pool
+    (taken_on c.args.volume.now.geometry c.args.end.now.level c.args.end.now.place c.args.slot c.in_ok-insert.field-0 c.insert_postings.new.pool c.insert.new.pool
     (of_overlay g.V.View.seen c.insert_postings.new.overlay) (of_overlay g.V.View.seen c.insert.new.overlay) entry.ends.plans))
 
 pub returns-in_err-insert-clause-indexes : goal.returns-in_err-insert-clause-indexes
@@ -67,12 +67,12 @@ returns-in_err-insert-clause-indexes g c =
     rw (handed c.from_residual-in_err-insert.result c.in_err-insert.field-0.0 c.from_residual-in_err-insert.ensures.1)
     (let row = c.in_ok-insert_postings.ensures.inserts in
     let entry = c.in_err-insert.ensures in
-    entry_ends c.args.volume.now.geometry c.args.slot c.args.rows.now c.args.level.now c.args.place c.args.pool.now.next
+    entry_ends c.args.volume.now.geometry c.args.slot c.args.rows.now c.args.end.now c.args.pool.now.next
     c.insert_postings.new.pool.next
     c.insert_postings.new.pool c.insert.new.pool
     (of_overlay g.V.View.seen c.args.overlay.now) (of_overlay g.V.View.seen c.insert_postings.new.overlay)
     (of_overlay g.V.View.seen c.insert.new.overlay) _ _ row entry
-    (entry_refused c.args.volume.now.geometry c.args.slot c.args.rows.now c.args.level.now c.args.place c.args.pool.now.next
+    (entry_refused c.args.volume.now.geometry c.args.slot c.args.rows.now c.args.end.now.level c.args.end.now.place c.args.pool.now.next
     c.insert_postings.new.pool.next c.insert_postings.new.pool c.insert.new.pool (of_overlay g.V.View.seen c.args.overlay.now) (of_overlay g.V.View.seen c.insert_postings.new.overlay)
     (of_overlay g.V.View.seen c.insert.new.overlay) c.in_err-insert.field-0.0
     (overlay_shows g.V.View.seen g.met.V.View.proper c.args.overlay.now) c.requires.nothing row entry))

@@ -2,31 +2,18 @@
 use Rattle.std.proofs.Common.{ℕ, Ok, arith, subst}
 use Rattle.jump_block.specs.Fronts.{FirstEnds}
 use Rattle.jump_block.specs.declared.known_front.Front.TheVariants.{At}
-use Rattle.jump_block.proofs.Knowing.{kept_on}
-use Rattle.jump_index.proofs.Ways.{found_at_end, hops_on}
+use Rattle.jump_index.proofs.Ways.{found_at_end, hops_on, with_front}
 use Rattle.jump_index.proofs.near.find_near.Goals as goal
 
 pub returns-in_err-next-clause-kept : goal.returns-in_err-next-clause-kept
 returns-in_err-next-clause-kept g c = λ tells.
     let n = c.next_in_rows-found.ensures in
-    let k = c.requires.kept tells in
-    record {
-      fronts = c.keep.ensures.kept (g.V.View.seen c.next_in_rows-found.new.view).image (kept_on n.viewed.image k.fronts)
-          (n.known tells);
-      row = n.kept tells;
-      hops = hops_on n.viewed.image k.hops;
-    }
+    with_front n.viewed.image (c.requires.kept tells) (λ known. c.keep.ensures.kept _ known (n.known tells)) (n.kept tells)
 
 pub returns-in-Some-clause-kept : goal.returns-in-Some-clause-kept
 returns-in-Some-clause-kept g c = λ tells.
     let n = c.next_in_rows-found.ensures in
-    let k = c.requires.kept tells in
-    record {
-      fronts = c.keep.ensures.kept (g.V.View.seen c.next_in_rows-found.new.view).image (kept_on n.viewed.image k.fronts)
-          (n.known tells);
-      row = n.kept tells;
-      hops = hops_on n.viewed.image k.hops;
-    }
+    with_front n.viewed.image (c.requires.kept tells) (λ known. c.keep.ensures.kept _ known (n.known tells)) (n.kept tells)
 
 pub returns-in-Some-clause-finds : goal.returns-in-Some-clause-finds
 returns-in-Some-clause-finds g c =
@@ -49,21 +36,9 @@ returns-in-Some-clause-finds g c =
 pub returns-in_default-clause-kept : goal.returns-in_default-clause-kept
 returns-in_default-clause-kept g c = λ tells.
     let n = c.next_in_rows-found.ensures in
-    let k = c.requires.kept tells in
-    record {
-      fronts = c.keep.ensures.kept (g.V.View.seen c.next_in_rows-found.new.view).image (kept_on n.viewed.image k.fronts)
-          (n.known tells);
-      row = n.kept tells;
-      hops = hops_on n.viewed.image k.hops;
-    }
+    with_front n.viewed.image (c.requires.kept tells) (λ known. c.keep.ensures.kept _ known (n.known tells)) (n.kept tells)
 
 pub returns-in_default-2-clause-kept : goal.returns-in_default-2-clause-kept
 returns-in_default-2-clause-kept g c = λ tells.
     let n = c.next_in_rows-found.ensures in
-    let k = c.requires.kept tells in
-    record {
-      fronts = c.keep.ensures.kept (g.V.View.seen c.next_in_rows-found.new.view).image (kept_on n.viewed.image k.fronts)
-          (n.known tells);
-      row = n.kept tells;
-      hops = hops_on n.viewed.image k.hops;
-    }
+    with_front n.viewed.image (c.requires.kept tells) (λ known. c.keep.ensures.kept _ known (n.known tells)) (n.kept tells)
