@@ -100,11 +100,6 @@ block_inside {g} {image} {l} {block} layout is = from (list_at g l) is.leads (he
 pub one_target : {g : Layout} {image : Image} {at a b : ℕ} → PointsTo g image at a → PointsTo g image at b → a ≡ b
 one_target {g} {image} {at} {a} {b} h k = let e = one_record_holds image at (Jump a) (Jump b) h.held k.held in cc
 
--- no pointer place was followed yet
-pub none_followed : {g : Layout} {image : Image} {n : ℕ} {from : ListBlock} {blocks : List ListBlock} → AreClosedBelow g image n blocks
-    → slice_get blocks n ≡ Some from → IsFollowed g image n from 128 blocks
-none_followed below here = record { below = below; here = here; leads = λ p t low high. absurd (omega (arith, low, high)) }
-
 -- a place from which no pointer leads on
 pub no_target : {g : Layout} {image : Image} {n : ℕ} {from : ListBlock} {pointer : ℕ} {blocks : List ListBlock}
     → IsFollowed g image n from pointer blocks → ((target : ℕ) → PointsTo g image (from.block + pointer) target → ⊥)

@@ -1,6 +1,7 @@
 mod AllLed
 pub mod Closing
 pub mod EachBlock
+mod Following
 pub mod Holding
 pub mod RowsListed
 pub mod Ordered

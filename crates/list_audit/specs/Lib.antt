@@ -1,6 +1,7 @@
 pub mod Blocks
 pub mod Bodies
 pub mod Entries
+pub mod Following
 pub mod Keeping
 pub mod Numbers
 pub mod Owed

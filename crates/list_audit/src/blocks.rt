@@ -3,8 +3,10 @@ ghost use Rattle.std.specs.Prelude.{◌≡◌, ◌<◌, ◌+◌, IfOk, OnOk, Som
 ghost use Rattle.cell_types.specs.Image.{Image};
 ghost use Rattle.cell_types.specs.Layout.{all_lists};
 ghost use Rattle.log_audit.specs.Kept.{image_of_kept};
-ghost use Rattle.list_audit.specs.Blocks.{AreListBlocks, AreNumbered, AreClosedBelow};
+ghost use Rattle.list_audit.specs.Blocks.{AreListBlocks, AreNumbered, AreClosedBelow, LeadsAmong};
+ghost use Rattle.list_audit.specs.Following.{AreFollowed};
 
+use crate::followed::FollowedBlocks;
 use crate::found::FoundBlocks;
 use crate::listed::ListBlock;
 use crate::targets::pointer_target;
@@ -31,11 +33,13 @@ pub fn blocks_of(
     ensures { IfOk result (λ blocks. AreListBlocks geometry.now (image_of_kept kept.now) blocks.items) }
 {
     let mut found = first_blocks(alloc, geometry)?;
+    let mut followed = FollowedBlocks::none(alloc);
     for turn in 0..u32::MAX {
         let Some(from) = found.at(turn) else {
             return Ok(found.blocks);
         };
-        add_targets(kept, geometry, turn, from, &mut found)?;
+        add_targets(kept, geometry, turn, &from, &followed, &mut found)?;
+        followed.add(from)?;
     }
     // Each of 2^32 - 1 blocks has had its turn, and no memory holds one more.
     memory::count_of(&found.blocks)?;
@@ -65,23 +69,31 @@ fn first_blocks(alloc: Global, geometry: &Geometry) -> Result<FoundBlocks, NoMem
     Ok(found)
 }
 
-/// Adds each block to which the pointer places of the block of a turn lead.
+/// Adds each block to which the pointer places of the block of a turn lead. Blocks of a list may meet where cells were
+/// tampered with, and what was followed for one of them is not followed again.
 fn add_targets(
     kept: &KeptCells,
     geometry: &Geometry,
     turn: u32,
-    from: ListBlock,
+    from: &ListBlock,
+    followed: &FollowedBlocks,
     found: &mut FoundBlocks,
 ) -> Result<(), NoMemory>
     requires numbered { AreNumbered found.old.blocks.items found.old.numbers }
     requires closed { AreClosedBelow geometry.now (image_of_kept kept.now) turn found.old.blocks.items }
-    requires here { slice_get found.old.blocks.items turn ≡ Some from }
+    requires here { slice_get found.old.blocks.items turn ≡ Some from.now }
+    requires followed { AreFollowed geometry.now (image_of_kept kept.now) followed.now.numbers found.old.blocks.items }
     ensures closed { OnOk result
         (AreClosedBelow geometry.now (image_of_kept kept.now) (turn + 1) found.new.blocks.items) }
     ensures numbered { OnOk result (AreNumbered found.new.blocks.items found.new.numbers) }
+    ensures followed { OnOk result
+        (AreFollowed geometry.now (image_of_kept kept.now) followed.now.numbers found.new.blocks.items) }
+    ensures leads { OnOk result
+        (LeadsAmong geometry.now (image_of_kept kept.now) found.new.blocks.items from.now BEHIND_POINTERS) }
 {
     let _cells = geometry.cells();
-    for pointer in FIRST_POINTER..BEHIND_POINTERS {
+    let behind = followed.behind_pointers_of(from);
+    for pointer in followed.first_pointer_of(from)..behind {
         let Some(block) = pointer_target(kept, geometry, from.block + pointer) else {
             continue;
         };

@@ -1,5 +1,5 @@
 -- The tree's nodes, level after level.
-use Rattle.std.proofs.Common.{◌≡◌, ◌<◌, ◌≤◌, ◌+◌, ◌-◌, ◌⊎◌, ◌↔◌, ◌++◌, ⊎_elim, inl, inr, ℕ, zero, suc, List, [], ◌∷◌, length, get_or, Some, refl, sym, ◌∙◌, subst, ap, arith}
+use Rattle.std.proofs.Common.{◌≡◌, ◌<◌, ◌≤◌, ◌+◌, ◌-◌, ◌⊎◌, ◌↔◌, ◌++◌, ⊎_elim, inl, inr, ℕ, zero, suc, List, [], ◌∷◌, length, get_or, Option, Some, refl, sym, ◌∙◌, subst, ap, arith}
 use Rattle.std.specs.Prelude.{slice_get, slice_index, slice_index_or, Contains}
 use Rattle.std.specs.List.Sorted.{IsStrictlyIncreasing}
 use Rattle.std.proofs.lemmas.List.Elements.{Contains-get_or, Contains-append_left, Contains-push, Contains-push_cases}
@@ -12,7 +12,7 @@ use Rattle.volume_meaning.specs.Nodes.{IsNode, root, under}
 use Rattle.volume_meaning.specs.Volumes.{Holds}
 use Rattle.volume_meaning.proofs.Holding.{one_record_holds}
 use Rattle.log_audit.proofs.OneMore.{get_before, get_last, length_pushed, below_or_at}
-use Rattle.tree_audit.specs.Nodes.{HasChildInPool, IsTarget, AddsChildTargets, IsUnder, AreUnder, AreNodesInside, AreOnLevel, AddsLevel, IsBefore, IsAmongNodes, AreNodes}
+use Rattle.tree_audit.specs.Nodes.{HasChildInPool, IsLastPlace, IsTarget, AddsChildTargets, IsUnder, AreUnder, AreNodesInside, AreOnLevel, AddsLevel, IsBefore, IsAmongNodes, AreNodes}
 use Rattle.tree_audit.specs.declared.nodes.LevelNode.{LevelNode}
 
 -- these are the nodes of the levels below one, each once
@@ -33,13 +33,39 @@ pub one_target : {g : Layout} {image : Image} {at a b : ℕ} → HasChildInPool 
 one_target {g} {image} {at} {a} {b} h k = let e = one_record_holds image at (Child a) (Child b) h.held k.held in cc
 
 -- no child cell was looked at yet
-pub no_targets : (g : Layout) (image : Image) (node : ℕ) (old : List ℕ) → AddsChildTargets g image node 16 old old
-no_targets g image node old = record {
+pub no_targets : (g : Layout) (image : Image) (node first : ℕ) (old : List ℕ)
+    → ((target : ℕ) → IsTarget g image node first target → Contains old target) → AddsChildTargets g image node first old old
+no_targets g image node first old added = record {
   each = λ target. (
     λ h. inl h,
-    λ h. ⊎_elim (λ before. before) (λ (t : IsTarget g image node 16 target). absurd (omega (arith, t.from, t.to))) h,
+    λ h. ⊎_elim (λ before. before) (λ (t : IsTarget g image node first target). added target t) h,
   );
 }
+
+-- the targets of the node before were added, if there is one
+abbrev pub AreLastAdded : Layout → Image → Option ℕ → List ℕ → Type 0
+AreLastAdded g image last found =
+    (before target : ℕ) → last ≡ Some before → IsTarget g image before 32 target → Contains found target
+
+-- of a node whose first places are all the last one's
+pub last_added : {g : Layout} {image : Image} {last : Option ℕ} (found : List ℕ) {node first : ℕ} → AreLastAdded g image last found
+    → ((place : ℕ) → 16 ≤ place → place < first → IsLastPlace last (node + place))
+    → (target : ℕ) → IsTarget g image node first target → Contains found target
+last_added {g} {image} found are passed target t =
+    let p = passed t.place t.from t.to in
+    are p.node target p.is_last (record {
+      place = p.here.place;
+      from = p.here.from;
+      to = p.here.to;
+      leads = subst (λ (k : ℕ). HasChildInPool g image k target) p.here.is t.leads;
+    })
+
+-- the node whose targets were added is the last one
+pub now_last : {g : Layout} {image : Image} {node : ℕ} {old new : List ℕ} → AddsChildTargets g image node 32 old new
+    → AreLastAdded g image (Some node) new
+now_last {g} {image} {node} {old} {new} adds before target is t =
+    let same : node ≡ before = cc in
+    (adds.each target).1 (inr (subst (λ (k : ℕ). IsTarget g image k 32 target) (sym same) t))
 
 -- one place more, at which no child cell leads on
 pub no_child : {g : Layout} {image : Image} {node place : ℕ} {old new : List ℕ} → AddsChildTargets g image node place old new

@@ -1,5 +1,5 @@
 -- The nodes of a volume's tree of identifiers, found level after level.
-use Rattle.std.specs.Prelude.{◌≡◌, ◌<◌, ◌≤◌, ◌+◌, ◌↔◌, ◌⊎◌, ℕ, List, length, slice_get, slice_index, Some, Contains}
+use Rattle.std.specs.Prelude.{◌≡◌, ◌<◌, ◌≤◌, ◌+◌, ◌↔◌, ◌⊎◌, ℕ, List, length, slice_get, slice_index, Option, Some, Contains}
 use Rattle.std.specs.List.Sorted.{IsStrictlyIncreasing}
 use Rattle.cell_types.specs.Image.{Image}
 use Rattle.cell_types.specs.Layout.{Layout}
@@ -11,6 +11,19 @@ use Rattle.tree_audit.specs.declared.nodes.LevelNode.{LevelNode}
 -- the child cell there leads to a node whose cells lie in the pool
 abbrev pub HasChildInPool : Layout → Image → ℕ → ℕ → Type 0
 HasChildInPool g image at target = LeadsInto g image (λ (t : ℕ). Child t) 32 at target
+
+-- the cell is at the place of a child cell of the node
+pub record IsChildPlace (node at : ℕ) : Type 0 where
+  pub place : ℕ
+  pub from : 16 ≤ place
+  pub to : place < 32
+  pub is : at ≡ node + place
+
+-- the cell is at the place of a child cell of the last node, if there is one
+pub record IsLastPlace (last : Option ℕ) (at : ℕ) : Type 0 where
+  pub node : ℕ
+  pub is_last : last ≡ Some node
+  pub here : IsChildPlace node at
 
 -- a child cell of the node leads there, one of those before this place
 pub record IsTarget (g : Layout) (image : Image) (node below target : ℕ) : Type 0 where

@@ -19,9 +19,10 @@
 //!     rule 14, cell 6      560 is the bucket of slot 0                         else broken at 6
 //!
 //! Nobody says that the tree is a good one: child cells may lead in a circle, so that a node stands at many levels, and
-//! nodes may meet. `nodes_of` finds each node once a level, level after level; and since no rule is checked by rising
-//! cells then, what is found at one node is joined with what was found before by `log_audit::lower_of`. What meets a
-//! node is found by bisection, among the rising numbers of where nodes and blocks begin.
+//! nodes may meet. `nodes_of` finds each node once a level, level after level, and follows a child cell of nodes that meet
+//! once a level; and since no rule is checked by rising cells then, what is found at one node is joined with what was
+//! found before by `log_audit::lower_of`. What meets a node is found by bisection, among the rising numbers of where nodes
+//! and blocks begin.
 //!
 //! A document stands on the volume that cell 0 states. So who asks about documents shows first that cell 0 states this
 //! volume. Rules 11 and 14 need that rule 4 is kept: then an identifier is known by the first cells of its document, and a

@@ -2,7 +2,7 @@
 ghost use Rattle.std.specs.Prelude.{◌≡◌, ◌<◌, ◌≤◌, ◌+◌, ◌^◌, ℕ, IfOk, OnOk, length, Contains};
 ghost use Rattle.std.specs.List.Sorted.{IsStrictlyIncreasing};
 ghost use Rattle.log_audit.specs.Kept.{image_of_kept};
-ghost use Rattle.tree_audit.specs.Nodes.{AreNodesInside, AreNodes, AreOnLevel, AreUnder, AddsLevel, AddsChildTargets};
+ghost use Rattle.tree_audit.specs.Nodes.{AreNodesInside, AreNodes, AreOnLevel, AreUnder, AddsLevel, AddsChildTargets, IsLastPlace, IsTarget};
 
 use crate::looks::child_at;
 use cell_types::{Geometry, NoMemory, memory};
@@ -71,26 +71,54 @@ fn row_under(
 {
     let _cells = geometry.cells();
     let mut under = Vec::new(alloc);
+    let mut last: Option<u32> = None;
     for node in row {
-        push_targets(kept, geometry, *node, &mut under)?;
+        let first = first_place_behind(*node, last);
+        push_targets(kept, geometry, *node, first, &mut under)?;
+        last = Some(*node);
     }
     // Two child cells may lead to one node.
     sort_once(&mut under);
     Ok(under)
 }
 
-/// Adds the node to which each child cell of this one leads.
+/// The first place of a child cell of a node that is none of the last node's. Nodes may meet where cells were tampered
+/// with, and a child cell of two of them is followed once.
+fn first_place_behind(node: u32, last: Option<u32>) -> u32
+    ensures from { NODE_BUCKETS ≤ result }
+    ensures to { result ≤ NODE_CELLS }
+    ensures passed { (place : ℕ) → 16 ≤ place → place < result → IsLastPlace last (node + place) }
+{
+    let Some(before) = last else {
+        return NODE_BUCKETS;
+    };
+    if node <= before {
+        return NODE_BUCKETS;
+    }
+    let step = node - before;
+    if step >= NODE_BUCKETS {
+        return NODE_BUCKETS;
+    }
+    NODE_CELLS - step
+}
+
+/// Adds the node to which each child cell of this one from this place on leads, where the others were added.
 fn push_targets(
     kept: &KeptCells,
     geometry: &Geometry,
     node: u32,
+    first: u32,
     targets: &mut Vec<u32>,
 ) -> Result<(), NoMemory>
-    requires { node + 32 < 2 ^ 32 }
+    requires inside { node + 32 < 2 ^ 32 }
+    requires from { NODE_BUCKETS ≤ first }
+    requires to { first ≤ NODE_CELLS }
+    requires added { (target : ℕ) → IsTarget geometry.now (image_of_kept kept.now) node first target
+        → Contains targets.old.items target }
     ensures { OnOk result (AddsChildTargets geometry.now (image_of_kept kept.now) node 32
         targets.old.items targets.new.items) }
 {
-    for place in NODE_BUCKETS..NODE_CELLS {
+    for place in first..NODE_CELLS {
         let Some(target) = child_at(kept, geometry, node + place) else {
             continue;
         };

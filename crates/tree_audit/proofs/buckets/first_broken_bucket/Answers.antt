@@ -1,4 +1,4 @@
--- One node more, and all of them.
+-- A node behind what was found; one node more; and all of them.
 use Rattle.std.proofs.Common.{◌≡◌, ◌+◌, get_or, Some, sym, subst, arith}
 use Rattle.std.specs.Prelude.{slice_get}
 use Rattle.std.proofs.lemmas.Option.{slice_get-get_or}
@@ -8,8 +8,16 @@ use Rattle.log_audit.specs.Least.{FindsPart}
 use Rattle.log_audit.proofs.Parts.{AskedBelow, as_asked, one_part, finds_all}
 use Rattle.tree_audit.specs.Buckets.{AsksBucket}
 use Rattle.tree_audit.specs.declared.nodes.LevelNode.{LevelNode}
-use Rattle.tree_audit.proofs.Judging.{AsksAt, same_node, asks_all, all_ask}
+use Rattle.tree_audit.proofs.Judging.{AsksAt, same_node, node_behind, asks_all, all_ask}
 use Rattle.tree_audit.proofs.buckets.first_broken_bucket.Goals as goal
+
+pub loop-place-preserved-then-lies_behind : goal.loop-place-preserved-then-lies_behind
+loop-place-preserved-then-lies_behind c =
+    let g = c.args.volume.now.geometry in let image = image_in c.args.volume.now in let nodes = c.args.nodes.now in
+    let i = c.loop-place.place-index in
+    let none : LevelNode = record { level = 0; node = 0 } in
+    let here : slice_get nodes i ≡ Some (get_or nodes i none) = slice_get-get_or nodes i none (omega (arith, c.loop-place-test.true)) in
+    node_behind g image nodes i (get_or nodes i none) here c.loop-place.least c.loop-place.invariant (c.lies_behind.ensures c.if-lies_behind.true)
 
 pub loop-place-preserved : goal.loop-place-preserved
 loop-place-preserved c =

@@ -6,13 +6,13 @@ use Rattle.tree_audit.proofs.Closing.{no_targets, no_child, one_child}
 use Rattle.tree_audit.proofs.nodes.push_targets.Goals as goal
 
 pub loop-place-init : goal.loop-place-init
-loop-place-init c = no_targets c.args.geometry.now (image_of_kept c.args.kept.now) c.args.node c.args.targets.now.items
+loop-place-init c = no_targets c.args.geometry.now (image_of_kept c.args.kept.now) c.args.node c.args.first c.args.targets.now.items c.requires.added
 
 pub loop-place-preserved-in_default : goal.loop-place-preserved-in_default
 loop-place-preserved-in_default c = no_child c.loop-place.invariant c.in_default.ensures
 
 pub loop-place-preserved : goal.loop-place-preserved
-loop-place-preserved c = one_child c.loop-place.invariant c.loop-place.auto.place c.in-Some.ensures c.in_ok-push.ensures.items
+loop-place-preserved c = one_child c.loop-place.invariant (omega (arith, c.loop-place.auto.place, c.requires.from)) c.in-Some.ensures c.in_ok-push.ensures.items
 
 pub returns : goal.returns
 returns c =

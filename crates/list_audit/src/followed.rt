@@ -1,0 +1,87 @@
+//! Blocks whose pointers were followed.
+ghost use Rattle.std.specs.Prelude.{◌≡◌, ◌<◌, ◌≤◌, ◌+◌, ◌^◌, ℕ, IfSome, OnOk, true};
+ghost use Rattle.std.specs.BTreeSet.{contains};
+ghost use Rattle.std.specs.Ordering.{nat_cmp};
+ghost use Rattle.list_audit.specs.Following.{AddsFollowed, HasNoneFollowed, IsFollowedAt};
+
+use crate::blocks::{BEHIND_POINTERS, FIRST_POINTER};
+use crate::listed::ListBlock;
+use cell_types::{NoMemory, memory};
+use std::alloc::Global;
+use std::collections::BTreeSet;
+
+/// How many pointer places a block has. Two blocks that begin so far apart have none in common.
+const POINTER_PLACES: u32 = 120;
+
+/// The numbers of the blocks whose pointers were followed so far, 8 bytes each.
+#[derive(Drop)]
+pub(crate) struct FollowedBlocks {
+    pub(crate) numbers: BTreeSet<u64>,
+}
+
+impl FollowedBlocks {
+    /// No block was followed yet. It takes no memory.
+    pub(crate) fn none(alloc: Global) -> FollowedBlocks
+        ensures { HasNoneFollowed result.numbers }
+    {
+        FollowedBlocks {
+            numbers: BTreeSet::new(alloc),
+        }
+    }
+
+    /// Adds a block.
+    pub(crate) fn add(&mut self, listed: ListBlock) -> Result<(), NoMemory>
+        ensures { OnOk result (AddsFollowed listed.list listed.block self.old.numbers self.new.numbers) }
+    {
+        memory::insert_new(&mut self.numbers, listed.number())?;
+        Ok(())
+    }
+
+    /// The first pointer place of a block that is none of the last one before it of the same list.
+    pub(crate) fn first_pointer_of(&self, listed: &ListBlock) -> u32
+        ensures from { FIRST_POINTER ≤ result }
+        ensures passed { (pointer : ℕ) → 128 ≤ pointer → pointer < result
+            → IsFollowedAt self.now.numbers listed.now.list (listed.now.block + pointer) }
+    {
+        let number = listed.number();
+        let reach = u64::from(listed.block.min(POINTER_PLACES - 1));
+        let Some(before) = self.last_between(number - reach, number) else {
+            return FIRST_POINTER;
+        };
+        BEHIND_POINTERS - (number - before) as u32
+    }
+
+    /// The place behind the last pointer place of a block that is none of the next one of the same list.
+    pub(crate) fn behind_pointers_of(&self, listed: &ListBlock) -> u32
+        requires { listed.now.block + 256 ≤ 2 ^ 32 }
+        ensures most { result ≤ BEHIND_POINTERS }
+        ensures passed { (pointer : ℕ) → result ≤ pointer → pointer < 248
+            → IsFollowedAt self.now.numbers listed.now.list (listed.now.block + pointer) }
+    {
+        let next = listed.number() + 1;
+        let Some(after) = self.first_between(next, next + u64::from(POINTER_PLACES - 1)) else {
+            return BEHIND_POINTERS;
+        };
+        FIRST_POINTER + 1 + (after - next) as u32
+    }
+
+    /// The greatest number from one up to another.
+    fn last_between(&self, from: u64, behind: u64) -> Option<u64>
+        requires { from ≤ behind }
+        ensures { IfSome result (λ number. (from ≤ number) × (number < behind)
+            × (contains nat_cmp self.now.numbers number ≡ true)) }
+    {
+        let number = self.numbers.range(from..behind).next_back()?;
+        Some(*number)
+    }
+
+    /// The least one.
+    fn first_between(&self, from: u64, behind: u64) -> Option<u64>
+        requires { from ≤ behind }
+        ensures { IfSome result (λ number. (from ≤ number) × (number < behind)
+            × (contains nat_cmp self.now.numbers number ≡ true)) }
+    {
+        let number = self.numbers.range(from..behind).next()?;
+        Some(*number)
+    }
+}
