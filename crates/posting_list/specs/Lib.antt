@@ -2,6 +2,7 @@ pub mod Joins
 pub mod Keeping
 pub mod Laws
 pub mod Naming
+pub mod Over
 pub mod Owing
 pub mod Searches
 pub mod States

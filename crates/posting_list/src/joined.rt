@@ -24,7 +24,7 @@ impl<'a, V: View> TermLists<'a, V> {
       TermsGatherReads,
       TermsJoin,
     };
-    ghost use Rattle.posting_list.specs.States.{counted_lists};
+    ghost use Rattle.posting_list.specs.Over.{lists_of};
     ghost use Rattle.posting_list.specs.Terms.{TermEnds};
 
     /// The next slot at or past one that all of the terms have, `None` where there is none. The view is read alone.
@@ -71,19 +71,9 @@ impl<'a, V: View> TermLists<'a, V> {
     /// The same, as the join speaks of its lists.
     fn gather(&mut self, alloc: Global) -> Result<Vec<Part>, Refusal>
         requires some { 1 ≤ length self.old.sought.now.terms.items }
-        ensures kept { Keeps (counted_lists self.old.reach self.old.sought.now.terms.items self.old.view.ghost_name
-            (V.seen self.old.view.now) self.old.next_asks self.old.has_asks)
-            (counted_lists self.new.reach self.new.sought.now.terms.items self.new.view.ghost_name
-            (V.seen self.new.view.now) self.new.next_asks self.new.has_asks) }
-        ensures ends { GatherPartsEnds self.old.reach.volume.geometry
-            (counted_lists self.old.reach self.old.sought.now.terms.items self.old.view.ghost_name
-            (V.seen self.old.view.now) self.old.next_asks self.old.has_asks)
-            (counted_lists self.new.reach self.new.sought.now.terms.items self.new.view.ghost_name
-            (V.seen self.new.view.now) self.new.next_asks self.new.has_asks) result }
-        ensures costs { GatherCosts (counted_lists self.old.reach self.old.sought.now.terms.items
-            self.old.view.ghost_name (V.seen self.old.view.now) self.old.next_asks self.old.has_asks)
-            (counted_lists self.new.reach self.new.sought.now.terms.items self.new.view.ghost_name
-            (V.seen self.new.view.now) self.new.next_asks self.new.has_asks) }
+        ensures kept { Keeps (lists_of self.old) (lists_of self.new) }
+        ensures ends { GatherPartsEnds self.old.reach.volume.geometry (lists_of self.old) (lists_of self.new) result }
+        ensures costs { GatherCosts (lists_of self.old) (lists_of self.new) }
     {
         let mut parts = Vec::new(alloc);
         let mut from = 0;
@@ -120,10 +110,10 @@ impl<'a, V: View> TermLists<'a, V> {
 }
 
 impl<'a, V: View> Lists for TermLists<'a, V> {
-    ghost use Rattle.posting_list.specs.States.{KnowsPart, counted_lists};
+    ghost use Rattle.posting_list.specs.Over.{lists_of};
+    ghost use Rattle.posting_list.specs.States.{KnowsPart};
 
-    ghost state = { λ t. counted_lists t.reach t.sought.now.terms.items t.view.ghost_name (V.seen t.view.now)
-        t.next_asks t.has_asks };
+    ghost state = { λ t. lists_of t };
 
     ghost knows = { λ t slot. KnowsPart t.reach (V.seen t.view.now) t.last slot };
 

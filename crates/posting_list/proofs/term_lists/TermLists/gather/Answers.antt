@@ -3,7 +3,8 @@ use Rattle.std.proofs.Common.{ℕ, Option, Ok, subst}
 use Rattle.zigzag_join.specs.Counts.{JoinCosts}
 use Rattle.zigzag_join.specs.Joins.{JoinEnds}
 use Rattle.zigzag_join.proofs.Joining.{keeps_then}
-use Rattle.posting_list.specs.States.{KnowsPart, counted_lists}
+use Rattle.posting_list.specs.Over.{lists_of}
+use Rattle.posting_list.specs.States.{KnowsPart}
 use Rattle.posting_list.proofs.Gathered.{known_part, more_costs, parts_all, parts_cost, parts_costs, parts_ended, parts_more, parts_none}
 use Rattle.posting_list.proofs.Joining.{knows_of}
 use Rattle.posting_list.proofs.Rows.{same_reach}
@@ -11,19 +12,15 @@ use Rattle.posting_list.proofs.term_lists.TermLists.gather.Goals as goal
 
 pub loop-from-init : goal.loop-from-init
 loop-from-init g c =
-    let old = counted_lists c.args.self.now.reach c.args.self.now.sought.now.terms.items c.args.self.now.view.ghost_name
-    (g.V.View.seen c.args.self.now.view.now) c.args.self.now.next_asks c.args.self.now.has_asks in
+    let old = lists_of c.args.self.now in
     parts_none c.args.self.now.reach old c.new-parts.result.items c.new-parts.ensures.items
 
 -- there are no more
 pub returns-in_default-clause-ends : goal.returns-in_default-clause-ends
 returns-in_default-clause-ends g c =
-    let old = counted_lists c.args.self.now.reach c.args.self.now.sought.now.terms.items c.args.self.now.view.ghost_name
-    (g.V.View.seen c.args.self.now.view.now) c.args.self.now.next_asks c.args.self.now.has_asks in
-    let now = counted_lists c.loop-from.self.reach c.loop-from.self.sought.now.terms.items c.loop-from.self.view.ghost_name
-    (g.V.View.seen c.loop-from.self.view.now) c.loop-from.self.next_asks c.loop-from.self.has_asks in
-    let new = counted_lists c.next_common.new.lists.reach c.next_common.new.lists.sought.now.terms.items c.next_common.new.lists.view.ghost_name
-    (g.V.View.seen c.next_common.new.lists.view.now) c.next_common.new.lists.next_asks c.next_common.new.lists.has_asks in
+    let old = lists_of c.args.self.now in
+    let now = lists_of c.loop-from.self in
+    let new = lists_of c.next_common.new.lists in
     parts_ended c.args.self.now.reach old now c.loop-from.from c.loop-from.parts.items c.loop-from.invariant new
     c.in_ok-slot.ensures.kept
     (subst (λ (o : Option ℕ). JoinEnds c.loop-from.from now new (Ok o))
@@ -31,12 +28,9 @@ returns-in_default-clause-ends g c =
 
 pub returns-in_default-clause-costs : goal.returns-in_default-clause-costs
 returns-in_default-clause-costs g c =
-    let old = counted_lists c.args.self.now.reach c.args.self.now.sought.now.terms.items c.args.self.now.view.ghost_name
-    (g.V.View.seen c.args.self.now.view.now) c.args.self.now.next_asks c.args.self.now.has_asks in
-    let now = counted_lists c.loop-from.self.reach c.loop-from.self.sought.now.terms.items c.loop-from.self.view.ghost_name
-    (g.V.View.seen c.loop-from.self.view.now) c.loop-from.self.next_asks c.loop-from.self.has_asks in
-    let new = counted_lists c.next_common.new.lists.reach c.next_common.new.lists.sought.now.terms.items c.next_common.new.lists.view.ghost_name
-    (g.V.View.seen c.next_common.new.lists.view.now) c.next_common.new.lists.next_asks c.next_common.new.lists.has_asks in
+    let old = lists_of c.args.self.now in
+    let now = lists_of c.loop-from.self in
+    let new = lists_of c.next_common.new.lists in
     parts_costs c.args.self.now.reach old now c.loop-from.from c.loop-from.parts.items c.loop-from.invariant new
     c.in_ok-slot.ensures.kept
     (subst (λ (o : Option ℕ). JoinCosts c.loop-from.from now new (Ok o))
@@ -45,12 +39,9 @@ returns-in_default-clause-costs g c =
 -- the join gives no answer
 pub returns-in_err-slot-clause-costs : goal.returns-in_err-slot-clause-costs
 returns-in_err-slot-clause-costs g c =
-    let old = counted_lists c.args.self.now.reach c.args.self.now.sought.now.terms.items c.args.self.now.view.ghost_name
-    (g.V.View.seen c.args.self.now.view.now) c.args.self.now.next_asks c.args.self.now.has_asks in
-    let now = counted_lists c.loop-from.self.reach c.loop-from.self.sought.now.terms.items c.loop-from.self.view.ghost_name
-    (g.V.View.seen c.loop-from.self.view.now) c.loop-from.self.next_asks c.loop-from.self.has_asks in
-    let new = counted_lists c.next_common.new.lists.reach c.next_common.new.lists.sought.now.terms.items c.next_common.new.lists.view.ghost_name
-    (g.V.View.seen c.next_common.new.lists.view.now) c.next_common.new.lists.next_asks c.next_common.new.lists.has_asks in
+    let old = lists_of c.args.self.now in
+    let now = lists_of c.loop-from.self in
+    let new = lists_of c.next_common.new.lists in
     parts_costs c.args.self.now.reach old now c.loop-from.from c.loop-from.parts.items c.loop-from.invariant new
     c.in_err-slot.ensures.kept
     c.in_err-slot.ensures.costs
@@ -58,12 +49,9 @@ returns-in_err-slot-clause-costs g c =
 -- there is no memory for one more
 pub returns-in_err-keep-clause-costs : goal.returns-in_err-keep-clause-costs
 returns-in_err-keep-clause-costs g c =
-    let old = counted_lists c.args.self.now.reach c.args.self.now.sought.now.terms.items c.args.self.now.view.ghost_name
-    (g.V.View.seen c.args.self.now.view.now) c.args.self.now.next_asks c.args.self.now.has_asks in
-    let now = counted_lists c.loop-from.self.reach c.loop-from.self.sought.now.terms.items c.loop-from.self.view.ghost_name
-    (g.V.View.seen c.loop-from.self.view.now) c.loop-from.self.next_asks c.loop-from.self.has_asks in
-    let new = counted_lists c.next_common.new.lists.reach c.next_common.new.lists.sought.now.terms.items c.next_common.new.lists.view.ghost_name
-    (g.V.View.seen c.next_common.new.lists.view.now) c.next_common.new.lists.next_asks c.next_common.new.lists.has_asks in
+    let old = lists_of c.args.self.now in
+    let now = lists_of c.loop-from.self in
+    let new = lists_of c.next_common.new.lists in
     more_costs c.args.self.now.reach old now c.loop-from.from c.loop-from.parts.items c.loop-from.invariant new
     c.in_ok-slot.ensures.kept c.in-Some.slot
     (subst (λ (o : Option ℕ). JoinEnds c.loop-from.from now new (Ok o))
@@ -74,12 +62,9 @@ returns-in_err-keep-clause-costs g c =
 -- one more
 pub loop-from-preserved : goal.loop-from-preserved
 loop-from-preserved g c =
-    let old = counted_lists c.args.self.now.reach c.args.self.now.sought.now.terms.items c.args.self.now.view.ghost_name
-    (g.V.View.seen c.args.self.now.view.now) c.args.self.now.next_asks c.args.self.now.has_asks in
-    let now = counted_lists c.loop-from.self.reach c.loop-from.self.sought.now.terms.items c.loop-from.self.view.ghost_name
-    (g.V.View.seen c.loop-from.self.view.now) c.loop-from.self.next_asks c.loop-from.self.has_asks in
-    let new = counted_lists c.next_common.new.lists.reach c.next_common.new.lists.sought.now.terms.items c.next_common.new.lists.view.ghost_name
-    (g.V.View.seen c.next_common.new.lists.view.now) c.next_common.new.lists.next_asks c.next_common.new.lists.has_asks in
+    let old = lists_of c.args.self.now in
+    let now = lists_of c.loop-from.self in
+    let new = lists_of c.next_common.new.lists in
     let known = knows_of (KnowsPart c.next_common.new.lists.reach (g.V.View.seen c.next_common.new.lists.view.now)
     c.next_common.new.lists.last) c.in_ok-slot.field-0 c.in-Some.slot c.in-Some.is c.in_ok-slot.ensures.knows in
     let same = same_reach c.args.self.now.reach c.next_common.new.lists.reach c.args.self.now.sought.now.terms.items
@@ -99,18 +84,14 @@ loop-from-preserved g c =
 -- no slot is left
 pub returns-clause-ends : goal.returns-clause-ends
 returns-clause-ends g c =
-    let old = counted_lists c.args.self.now.reach c.args.self.now.sought.now.terms.items c.args.self.now.view.ghost_name
-    (g.V.View.seen c.args.self.now.view.now) c.args.self.now.next_asks c.args.self.now.has_asks in
-    let now = counted_lists c.loop-from.self.reach c.loop-from.self.sought.now.terms.items c.loop-from.self.view.ghost_name
-    (g.V.View.seen c.loop-from.self.view.now) c.loop-from.self.next_asks c.loop-from.self.has_asks in
+    let old = lists_of c.args.self.now in
+    let now = lists_of c.loop-from.self in
     parts_all c.args.self.now.reach old now c.loop-from.from c.loop-from.parts.items c.loop-from.invariant c.loop-from-test.false
 
 pub returns-clause-costs : goal.returns-clause-costs
 returns-clause-costs g c =
-    let old = counted_lists c.args.self.now.reach c.args.self.now.sought.now.terms.items c.args.self.now.view.ghost_name
-    (g.V.View.seen c.args.self.now.view.now) c.args.self.now.next_asks c.args.self.now.has_asks in
-    let now = counted_lists c.loop-from.self.reach c.loop-from.self.sought.now.terms.items c.loop-from.self.view.ghost_name
-    (g.V.View.seen c.loop-from.self.view.now) c.loop-from.self.next_asks c.loop-from.self.has_asks in
+    let old = lists_of c.args.self.now in
+    let now = lists_of c.loop-from.self in
     parts_cost c.args.self.now.reach old now c.loop-from.from c.loop-from.parts.items c.loop-from.invariant
 
 -- what every call keeps, over the calls before and the last one
