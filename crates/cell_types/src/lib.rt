@@ -15,8 +15,8 @@
 //! `encode` makes the cell of a record, and `decode` gives the record back. For any other sixteen bytes it
 //! answers `None`. Who knows which kind a cell has to be asks for that kind, which is cheaper: `posting_at`,
 //! and for the cells of a slot `decode_reserve`, `decode_commit`, `decode_done` and `decode_stamp`. No cell
-//! is both a record and content. Nothing here reads or writes a device. Memory is taken by the calls of `memory`
-//! alone, each std's of its name, so a refusal that tells want of memory tells of such a call.
+//! is both a record and content. Nothing here reads or writes a device. The calls of `memory` take memory, each by
+//! std's of its name, and want of it is a value that only `memory` makes.
 //!
 //! Stands on `byteorder`, for numbers in bytes, and `thiserror`, for the lines of refusals. Begin with
 //! `cell.rt`. Then `specs/Records.antt` says what each kind holds, and when it is well-formed.

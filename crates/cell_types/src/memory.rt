@@ -1,6 +1,6 @@
 //! Where memory is taken. Each call is std's of the same name, and tells `NoMemory` where that one finds none. No other
-//! crate can make a `NoMemory`, nor a refusal that says the same: so what is told as want of memory is one, and nothing
-//! that had been found is told so.
+//! crate can make a `NoMemory`, nor a refusal that says the same: whom memory lacks elsewhere asks `lacked_elsewhere`
+//! for it, and `tools/check_memory` lists who does.
 ghost use Rattle.std.specs.Prelude.{◌≡◌, ◌+◌, ◌<◌, ◌≤◌, ◌^◌, [], encode_utf8, ◌++◌, ◌∷◌, length, replicate, is_ok, if◌then◌else◌, not, true, IfOk, IfSome, IsOk, OnOk, OnErr, Some};
 ghost use Rattle.std.specs.List.Sorted.{IsPermutation, IsSorted};
 ghost use Rattle.std.specs.BTreeMap.{get, insert_entry, values, IsOrdered, Updates, IsUnchanged};
