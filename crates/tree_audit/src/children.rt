@@ -8,7 +8,7 @@ ghost use Rattle.log_audit.specs.Kept.{image_of_kept};
 ghost use Rattle.log_audit.specs.Findings.{IsMetAll};
 ghost use Rattle.log_audit.specs.Stored.{IsStored};
 ghost use Rattle.slot_audit.specs.Copying.{HasTarget};
-ghost use Rattle.list_audit.specs.Blocks.{AreListBlocks};
+ghost use Rattle.list_audit.specs.Blocks.{AreBlocksForTwo};
 ghost use Rattle.tree_audit.specs.Around.{AreAround};
 ghost use Rattle.tree_audit.specs.Children.{AsksChild, HasCopyOf, IsClear, IsJournaled, IsWellLed};
 ghost use Rattle.tree_audit.specs.Nodes.{AreNodes, HasChildInPool};
@@ -34,7 +34,7 @@ pub fn first_broken_child(
     requires met { KeepsRule volume.now ReserveCells }
     requires journals { KeepsRule volume.now Journals }
     requires nodes { AreNodes volume.now.geometry (image_in volume.now) nodes.now }
-    requires blocks { AreListBlocks volume.now.geometry (image_in volume.now) blocks.now }
+    requires blocks { AreBlocksForTwo volume.now.geometry (image_in volume.now) blocks.now }
     ensures { IfOk result (λ found. FindsIn volume.now Children found) }
 {
     let around = around_of(alloc, &volume.kept, &volume.geometry, nodes, blocks)?;

@@ -16,7 +16,7 @@ ghost use Rattle.std.specs.Prelude.{◌<◌, ◌+◌, IfOk};
 ghost use Rattle.volume_meaning.specs.Nodes.{IsBlockOf};
 ghost use Rattle.tamper_rules.specs.Rules.{Pointers};
 ghost use Rattle.log_audit.specs.KeptVolumes.{FindsIn, FindsPartIn, KeepsBelow, image_in};
-ghost use Rattle.list_audit.specs.Blocks.{AreListBlocks};
+ghost use Rattle.list_audit.specs.Blocks.{AreBlocksForTwo};
 ghost use Rattle.tree_audit.specs.Nodes.{AreNodes};
 ghost use Rattle.tree_audit.specs.Leading.{PointerAsks};
 ghost use Rattle.tree_audit.specs.Occupied.{AreOccupied};
@@ -50,7 +50,7 @@ pub fn first_broken_pointer(
     nodes: &[LevelNode],
 ) -> Result<Option<Evidence>, NoMemory>
     requires met { KeepsBelow volume.now 10 }
-    requires blocks { AreListBlocks volume.now.geometry (image_in volume.now) blocks.now }
+    requires blocks { AreBlocksForTwo volume.now.geometry (image_in volume.now) blocks.now }
     requires nodes { AreNodes volume.now.geometry (image_in volume.now) nodes.now }
     ensures { IfOk result (λ found. FindsIn volume.now Pointers found) }
 {

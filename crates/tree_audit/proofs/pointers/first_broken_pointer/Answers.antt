@@ -3,9 +3,9 @@ use Rattle.std.proofs.Common.{arith}
 use Rattle.std.proofs.lemmas.Option.{slice_get-get_or}
 use Rattle.log_audit.specs.KeptVolumes.{image_in}
 use Rattle.tamper_rules.specs.Rules.{Pointers}
-use Rattle.list_audit.proofs.EachBlock.{one_block, every_block}
+use Rattle.list_audit.proofs.EachBlock.{one_block}
 use Rattle.tree_audit.specs.Leading.{PointerAsks}
-use Rattle.tree_audit.proofs.Going.{block_asks, rule_asks}
+use Rattle.tree_audit.proofs.ForTwo.{asked_for_two}
 use Rattle.tree_audit.proofs.pointers.first_broken_pointer.Goals as goal
 
 pub first_in_block-requires-clause-block : goal.first_in_block-requires-clause-block
@@ -20,8 +20,5 @@ loop-block-preserved c = let volume = c.args.volume.now in
     c.first_in_block.ensures c.lower_of-least.ensures
 
 pub returns : goal.returns
-returns c = let volume = c.args.volume.now in
-    every_block volume.geometry (image_in volume) Pointers c.args.blocks.now
-    (PointerAsks volume.geometry (image_in volume)) c.loop-block.block-index _ c.requires.blocks c.loop-block.invariant
-    (omega (arith, c.loop-block-test.false)) (rule_asks volume.geometry (image_in volume))
-    (block_asks volume.geometry (image_in volume))
+returns c = asked_for_two c.args.volume.now.geometry (image_in c.args.volume.now) c.args.blocks.now c.requires.blocks c.loop-block.block-index _
+    c.loop-block.invariant (omega (arith, c.loop-block-test.false))
