@@ -29,6 +29,20 @@ pub record AreListBlocks (g : Layout) (image : Image) (blocks : List ListBlock) 
   pub all : (l block : ℕ) → IsBlockOf g image l block → IsAmongBlocks blocks l block
   pub once : AreOnce blocks
 
+-- two lists have this block among these
+pub record IsShared (blocks : List ListBlock) (block : ℕ) : Type 0 where
+  pub one : ℕ
+  pub other : ℕ
+  pub first : IsAmongBlocks blocks one block
+  pub second : IsAmongBlocks blocks other block
+  pub two : one ≡ other → ⊥
+
+-- these are the blocks of all lists, each of a list once; a block that is missing for a list is there for two others
+pub record AreBlocksForTwo (g : Layout) (image : Image) (blocks : List ListBlock) : Type 0 where
+  pub each : (i : ℕ) (b : ListBlock) → slice_get blocks i ≡ Some b → IsBlockOf g image b.list b.block
+  pub all : (l block : ℕ) → IsBlockOf g image l block → IsAmongBlocks blocks l block ⊎ IsShared blocks block
+  pub once : AreOnce blocks
+
 -- the jump cell there leads to a block whose cells lie in the pool
 abbrev pub PointsTo : Layout → Image → ℕ → ℕ → Type 0
 PointsTo g image at target = LeadsInto g image (λ (t : ℕ). Jump t) 256 at target
