@@ -1,6 +1,6 @@
 -- Rule 10 by blocks that are listed for two of their lists: what it asks on account of two it asks of none in vain.
-use Rattle.std.proofs.Common.{◌≡◌, ◌<◌, ◌≤◌, ◌+◌, ◌⊎◌, ⊎_elim, ℕ, List, length, Option, Some, refl, subst, arith}
-use Rattle.std.specs.Prelude.{slice_get, ⊥}
+use Rattle.std.proofs.Common.{◌≡◌, ◌<◌, ◌≤◌, ◌+◌, ◌*◌, ◌⊎◌, ⊎_elim, ℕ, List, length, Option, Some, sym, subst, arith}
+use Rattle.std.specs.Prelude.{slice_get}
 use Rattle.std.proofs.lemmas.Option.{slice_get_within}
 use Rattle.cell_types.specs.Image.{Image}
 use Rattle.cell_types.specs.Layout.{Layout}
@@ -8,8 +8,8 @@ use Rattle.cell_types.specs.declared.record_cell.RecordCell.TheVariants.{Jump}
 use Rattle.cell_types.specs.declared.refusal.Evidence.{Evidence}
 use Rattle.volume_meaning.specs.Blocks.{pointer_at}
 use Rattle.volume_meaning.specs.Nodes.{AreApart, IsBlockOf}
-use Rattle.volume_meaning.proofs.Holding.{one_record_holds}
-use Rattle.tamper_rules.specs.Rules.{LeadsWell, PointerRule, Pointers}
+use Rattle.volume_meaning.specs.Volumes.{Holds}
+use Rattle.tamper_rules.specs.Rules.{LeadsWell, Pointers}
 use Rattle.log_audit.specs.Findings.{FindsBroken}
 use Rattle.log_audit.specs.Least.{FindsPart}
 use Rattle.log_audit.proofs.Parts.{AskedBelow, finds_all}
