@@ -8,8 +8,8 @@ use Rattle.cell_types.specs.declared.refusal.Refusal.TheVariants.{DeviceFault}
 use Rattle.commit_record.specs.declared.slot.SlotState.{SlotState}
 use Rattle.commit_record.specs.declared.slot.SlotState.TheVariants.{Unused, Reserved, Abandoned, Committed, Done}
 use Rattle.recovery_engine.specs.declared.put.Put.{Put}
-use Rattle.recovery_engine.specs.Putting.{IsInFirst, LeavesPhases, CrashesLeavePhases, PutsPhases}
-use Rattle.recovery_engine.proofs.Phasing.{changes_same, changes_wider, false_true, phases_append, phases_append_ended}
+use Rattle.recovery_engine.specs.Putting.{IsInFirst, CrashesLeavePhases, PutsPhases}
+use Rattle.recovery_engine.proofs.Phasing.{changes_same, changes_wider, crashes_wider, false_true, phases_append, phases_append_ended}
 use Rattle.worm_device.specs.Calls.{Called, Syncs}
 use Rattle.worm_device.specs.Counts.{IsStill, Rose}
 use Rattle.worm_device.specs.State.{DeviceState, LeftSince}
@@ -277,16 +277,6 @@ settled_ended n s0 s4 s5 state ended result looked unfailed read phases ending o
               );
           only = λ still. changes_wider (λ put h. (h.0, omega (arith, h.1, two_phases state), h.2))
               (whole.puts.only tells still);
-          crashes = λ t since image le left. ⊎_elim inl
-              (λ (l : LeavesPhases (settle_plan s4.image n state) (1 + end_phases state) s0 s5 image).
-              inr (record {
-                phase = l.phase;
-                begun = omega (arith, l.begun, two_phases state);
-                all = l.all;
-                sure =
-                    l.sure;
-                synced = l.synced;
-                only = l.only;
-              }))
-              (whole.crashes t since image le left);
+          crashes = crashes_wider plan (1 + end_phases state) 3 (omega (arith, two_phases state)) whole.puts.called
+              whole.crashes;
         }
