@@ -1,1 +1,0 @@
--- Reading on behind what rows made known.
