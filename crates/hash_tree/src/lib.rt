@@ -40,4 +40,3 @@ pub use insertion_laws::{passed_is_on_path, taken_is_broken};
 pub use laws::a_step_has_one_answer;
 pub use level::{ChildCell, Level};
 pub use path::{Open, PathStep, next_candidate};
-pub use volume_meaning::nibble_of;

@@ -1,5 +1,5 @@
 -- Reading an entry or a pointer, where what was read is none.
-use Rattle.std.proofs.Common.{◌≡◌, ◌+◌, ℕ, List, Some, Err, refl, ap, sym, subst, ◌∙◌}
+use Rattle.std.proofs.Common.{◌≡◌, ◌+◌, ℕ, Err, ap, sym, subst, ◌∙◌}
 use Rattle.cell_types.specs.declared.record_cell.RecordCell.TheVariants.{Jump}
 use Rattle.cell_types.specs.declared.refusal.Fault.{Fault}
 use Rattle.cell_types.specs.declared.refusal.Fault.TheVariants.{Tampered, Failed}

@@ -1,5 +1,5 @@
 -- What a kept row shows of a front, and rows that are read one after another.
-use Rattle.std.proofs.Common.{◌≡◌, ◌<◌, ◌≤◌, ◌+◌, ℕ, zero, suc, List, [], ◌∷◌, length, slice_get, Option, Some, None, Result, Ok, Err, refl, sym, subst, arith, ◌∙◌}
+use Rattle.std.proofs.Common.{◌≡◌, ◌<◌, ◌≤◌, ◌+◌, ℕ, zero, suc, List, [], ◌∷◌, slice_get, Option, Some, None, Ok, Err, refl, sym, subst, arith, ◌∙◌}
 use Rattle.std.specs.Prelude.{IsTrue, ⊤}
 use Rattle.std.proofs.lemmas.Option.{none-some, same_Some, slice_get_within}
 use Rattle.cell_types.specs.Image.{Image}
@@ -10,13 +10,12 @@ use Rattle.worm_device.specs.Views.{ViewState, Viewed}
 use Rattle.worm_device.specs.declared.device.Failed.{Failed}
 use Rattle.worm_device.proofs.Resting.{viewed_then}
 use Rattle.jump_block.specs.Entries.{posting_of}
-use Rattle.jump_block.specs.Fronts.{AreBelow, FirstEnds}
+use Rattle.jump_block.specs.Fronts.{AreBelow}
 use Rattle.jump_block.specs.Known.{IsBelow, IsKnown}
 use Rattle.jump_block.specs.KeptRows.{IsNextOf, IsRowKept, PassesRow, ReadsNext, ShowsEntry}
 use Rattle.jump_block.specs.RowFronts.{StandsFrom}
 use Rattle.jump_block.specs.declared.held_entry.Entry.{Entry}
 use Rattle.jump_block.specs.declared.kept_row.KeptRow.{KeptRow}
-use Rattle.jump_block.specs.declared.known_front.Front.TheVariants.{At}
 use Rattle.jump_block.specs.declared.known_front.KnownFront.{KnownFront}
 use Rattle.jump_block.proofs.Counting.{rose_later}
 use Rattle.jump_block.proofs.Knowing.{below_known, known_on, next_in_front}

@@ -1,11 +1,10 @@
 -- Rows of cells that make a front known.
-use Rattle.std.proofs.Common.{◌≡◌, ◌<◌, ◌≤◌, ◌+◌, ◌*◌, ℕ, List, length, slice_get, Option, Some, None, Result, Ok, Err, refl, ap, sym, subst, arith, ◌∙◌}
+use Rattle.std.proofs.Common.{◌≡◌, ◌<◌, ◌≤◌, ◌+◌, ℕ, List, length, slice_get, Option, Some, Result, Ok, Err, refl, sym, subst, arith, ◌∙◌}
 use Rattle.std.specs.Prelude.{IsTrue}
 use Rattle.std.proofs.lemmas.Option.{slice_get_within}
 use Rattle.cell_types.specs.Image.{Image}
-use Rattle.volume_meaning.specs.Blocks.{PostingFields, posting_record, InFront}
+use Rattle.volume_meaning.specs.Blocks.{posting_record, InFront}
 use Rattle.volume_meaning.specs.Volumes.{Holds}
-use Rattle.worm_device.specs.Counts.{Rose}
 use Rattle.worm_device.specs.ReadRows.{ViewReadsRow}
 use Rattle.worm_device.specs.Views.{ViewState, Viewed}
 use Rattle.worm_device.specs.declared.device.Failed.{Failed}

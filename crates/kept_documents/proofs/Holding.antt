@@ -37,6 +37,9 @@ module _ (v : Volume) (n : ℕ) (id : List ℕ) (old mid : ViewState) (looked : 
       → HoldsDocument g old.image n id body
   held_then body volume kept = stands_held g old.cells old.image n id body volume kept.stands
 
+  told : IsTrue old.base.tells → IsTrue mid.base.tells
+  told tells = subst IsTrue (sym looked.called.tells) tells
+
   -- there is no such slot
   pub no_such_slot : g.slots ≤ n → AsksDocumentIn v n id old mid (Ok None)
   no_such_slot late = record {
@@ -74,9 +77,6 @@ module _ (v : Volume) (n : ℕ) (id : List ℕ) (old mid : ViewState) (looked : 
     ends = go result (subst (λ (k : ℕ). DocumentInAnswer v k id mid new result) same asked.ends);
   }
     where
-      told : IsTrue old.base.tells → IsTrue mid.base.tells
-      told tells = subst IsTrue (sym looked.called.tells) tells
-
       go : (result : Result (Option KeptDocument) AskFault) → DocumentInAnswer v n id mid new result
           → DocumentInAnswer v n id old new result
       go (Ok (Some d)) ends = record {
@@ -91,75 +91,68 @@ module _ (v : Volume) (n : ℕ) (id : List ℕ) (old mid : ViewState) (looked : 
       go (Err ReadFault) ends = counts.rose_later _ _ _ looked.called.faults ends
       go (Err (NoMemory lack)) ends = tt
 
-  -- its document was taken
-  module _ (own body : List ℕ) (held : IsTrue mid.base.tells → HoldsDocument g mid.image n own body) where
-    told : IsTrue old.base.tells → IsTrue mid.base.tells
-    told tells = subst IsTrue (sym looked.called.tells) tells
+  -- its document was taken, and has another identifier
+  pub other_one : (own body : List ℕ) → (IsTrue mid.base.tells → HoldsDocument g mid.image n own body) → (own ≡ id → ⊥)
+      → AsksDocumentIn v n id old mid (Ok None)
+  other_one own body held other = record {
+    viewed = looked;
+    ends = λ tells volume one kept.
+        let now = held_on looked.image (held_then one volume kept) in
+        other (held_is_one g mid.image n own body id one (held (told tells)) now).0;
+  }
 
-    -- it has another identifier
-    pub other_one : (own ≡ id → ⊥) → AsksDocumentIn v n id old mid (Ok None)
-    other_one other = record {
-      viewed = looked;
-      ends = λ tells volume one kept.
-          let now = held_on looked.image (held_then one volume kept) in
-          other (held_is_one g mid.image n own body id one (held (told tells)) now).0;
+  -- it has this one, and the index was asked
+  module _ (body : List ℕ) (held : IsTrue mid.base.tells → HoldsDocument g mid.image n id body) (new : ViewState) where
+    pub indexed_yes : (d : KeptDocument) → d.volume ≡ v → d.part.slot ≡ n → HasPart g mid d.part → d.body.held ≡ body
+        → d.bytes ≡ length body → AsksIndexed g n id body mid new (Ok true)
+        → AsksDocumentIn v n id old new (Ok (Some d))
+    indexed_yes d volume_is slot part body_is count asked = record {
+      viewed = viewed_then looked asked.viewed;
+      ends = record {
+        volume_is = volume_is;
+        slot = slot;
+        part = has_part_on g mid new d.part asked.viewed part;
+        count = count ∙ ap length (sym body_is);
+        kept = λ tells volume.
+            let later = volume_later looked volume in
+            let indexed = asked.ends (told tells) later in
+            let stands = held_stands g new.cells new.image n id body (volume_later asked.viewed later)
+            (held_on asked.viewed.image (held (told tells))) in
+            let kept : IsKept new.cells new.image g (document_of n id body) = record {
+              stands = stands;
+              postings = indexed.postings;
+              stamp = indexed.stamp;
+              is_stamp = indexed.is_stamp;
+              trails = indexed.trails;
+              path = indexed.path;
+            } in
+            subst (λ (b : List ℕ). IsKept new.cells new.image g (document_of n id b)) (sym body_is) kept;
+      };
     }
 
-    -- it has this one, and the index was asked
-    module _ (same : own ≡ id) (new : ViewState) where
-      is_held : IsTrue old.base.tells → HoldsDocument g mid.image n id body
-      is_held tells = subst (λ (i : List ℕ). HoldsDocument g mid.image n i body) same (held (told tells))
+    pub indexed_no : AsksIndexed g n id body mid new (Ok false) → AsksDocumentIn v n id old new (Ok None)
+    indexed_no asked = record {
+      viewed = viewed_then looked asked.viewed;
+      ends = λ tells volume other kept.
+          let now = kept_later looked kept in
+          let one = held_is_one g mid.image n id other id body
+          (held_on looked.image (held_then other volume kept)) (held (told tells)) in
+          let led : IsLedTo g mid n id other = record {
+            postings = now.postings;
+            stamp = now.stamp;
+            is_stamp = now.is_stamp;
+            trails = now.trails;
+            path = now.path;
+          } in
+          asked.ends (told tells) (volume_later looked volume)
+          (subst (λ (b : List ℕ). IsLedTo g mid n id b) one.1 led);
+    }
 
-      pub indexed_yes : (d : KeptDocument) → d.volume ≡ v → d.part.slot ≡ n → HasPart g mid d.part → d.body.held ≡ body
-          → d.bytes ≡ length body → AsksIndexed g n id body mid new (Ok true)
-          → AsksDocumentIn v n id old new (Ok (Some d))
-      indexed_yes d volume_is slot part body_is count asked = record {
-        viewed = viewed_then looked asked.viewed;
-        ends = record {
-          volume_is = volume_is;
-          slot = slot;
-          part = has_part_on g mid new d.part asked.viewed part;
-          count = count ∙ ap length (sym body_is);
-          kept = λ tells volume.
-              let later = volume_later looked volume in
-              let indexed = asked.ends (told tells) later in
-              let stands = held_stands g new.cells new.image n id body (volume_later asked.viewed later)
-              (held_on asked.viewed.image (is_held tells)) in
-              let kept : IsKept new.cells new.image g (document_of n id body) = record {
-                stands = stands;
-                postings = indexed.postings;
-                stamp = indexed.stamp;
-                is_stamp = indexed.is_stamp;
-                trails = indexed.trails;
-                path = indexed.path;
-              } in
-              subst (λ (b : List ℕ). IsKept new.cells new.image g (document_of n id b)) (sym body_is) kept;
-        };
-      }
-
-      pub indexed_no : AsksIndexed g n id body mid new (Ok false) → AsksDocumentIn v n id old new (Ok None)
-      indexed_no asked = record {
-        viewed = viewed_then looked asked.viewed;
-        ends = λ tells volume other kept.
-            let now = kept_later looked kept in
-            let one = held_is_one g mid.image n id other id body
-            (held_on looked.image (held_then other volume kept)) (is_held tells) in
-            let led : IsLedTo g mid n id other = record {
-              postings = now.postings;
-              stamp = now.stamp;
-              is_stamp = now.is_stamp;
-              trails = now.trails;
-              path = now.path;
-            } in
-            asked.ends (told tells) (volume_later looked volume)
-            (subst (λ (b : List ℕ). IsLedTo g mid n id b) one.1 led);
-      }
-
-      -- it could not be asked
-      pub index_fails : (why : AskFault) → AsksIndexed g n id body mid new (Err why)
-          → AsksDocumentIn v n id old new (Err why)
-      index_fails ReadFault asked = record {
-        viewed = viewed_then looked asked.viewed;
-        ends = counts.rose_later _ _ _ looked.called.faults asked.ends;
-      }
-      index_fails (NoMemory lack) asked = record { viewed = viewed_then looked asked.viewed; ends = tt }
+    -- it could not be asked
+    pub index_fails : (why : AskFault) → AsksIndexed g n id body mid new (Err why)
+        → AsksDocumentIn v n id old new (Err why)
+    index_fails ReadFault asked = record {
+      viewed = viewed_then looked asked.viewed;
+      ends = counts.rose_later _ _ _ looked.called.faults asked.ends;
+    }
+    index_fails (NoMemory lack) asked = record { viewed = viewed_then looked asked.viewed; ends = tt }

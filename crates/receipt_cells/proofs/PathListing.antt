@@ -128,31 +128,32 @@ module _ (g : Layout) (image : Image) (s : Sought) (node level : ℕ) (b : HeldB
   to_node c (from_child _ _ target' passed' leads' rest) =
       inr (subst (λ (t : ℕ). PathRests g image s c t (level + 1)) (one_child leads' leads) rest)
 
-module _ (g : Layout) (n : ℕ) (digest : List ℕ) (node level at : ℕ) (at_is : at ≡ node + nibble digest level)
+module _ (g : Layout) (n : ℕ) (digest : List ℕ) (node level half : ℕ) (half_is : half ≡ nibble digest level)
     (old mid : ViewState) (listed first : List (ℕ × List ℕ)) where
-  place_is : (id : List ℕ) → digest ≡ sha256 id → at ≡ node + nibble (sha256 id) level
-  place_is id is = at_is ∙ ap (λ (d : List ℕ). node + nibble d level) is
+  -- the half byte is that of each identifier with this digest
+  place_is : (from : ℕ) (id : List ℕ) → digest ≡ sha256 id → from + half ≡ from + nibble (sha256 id) level
+  place_is from id is = ap (λ (k : ℕ). from + k) (half_is ∙ ap (λ (d : List ℕ). nibble d level) is)
 
   -- the bucket is not listed
-  pub bucket_fails : (why : AskFault) → ListsBucket at old mid listed first (Err why)
+  pub bucket_fails : (why : AskFault) → ListsBucket (node + half) old mid listed first (Err why)
       → ListsDown g n digest node level old mid listed first (Err why)
   bucket_fails why read = record { viewed = read.viewed; ends = λ id is. read.ends }
 
   -- there is none
-  pub bucket_lacks : ListsBucket at old mid listed first (Ok None)
+  pub bucket_lacks : ListsBucket (node + half) old mid listed first (Ok None)
       → ListsDown g n digest node level old mid listed first (Ok tt)
   bucket_lacks read = record {
     viewed = read.viewed;
     ends = λ id is tells volume body stands trail.
         let h = trail_bucket trail in
         absurd (read.ends tells h.0 h.1 (subst
-        (λ (c : ℕ). Holds old.image c (records.Bucket h.0 h.1)) (sym (place_is id is)) h.2));
+        (λ (c : ℕ). Holds old.image c (records.Bucket h.0 h.1)) (sym (place_is node id is)) h.2));
   }
 
-  module _ (b : HeldBucket) (read : ListsBucket at old mid listed first (Ok (Some b))) where
+  module _ (b : HeldBucket) (read : ListsBucket (node + half) old mid listed first (Ok (Some b))) where
     there : (id : List ℕ) → digest ≡ sha256 id → IsTrue old.base.tells
         → Holds mid.image (node + nibble (sha256 id) level) (records.Bucket b.slot b.fingerprint)
-    there id is tells = subst (λ (c : ℕ). Holds mid.image c (records.Bucket b.slot b.fingerprint)) (place_is id is)
+    there id is tells = subst (λ (c : ℕ). Holds mid.image c (records.Bucket b.slot b.fingerprint)) (place_is node id is)
         (read.ends tells).0
 
     -- it is the slot's own
@@ -168,9 +169,9 @@ module _ (g : Layout) (n : ℕ) (digest : List ℕ) (node level at : ℕ) (at_is
           (subst (λ (f : List ℕ). Holds mid.image (node + nibble (sha256 id) level) (records.Bucket b.slot f))
           (own.1 ∙ ap fingerprint_of is) (there id is tells)) in
           just_as
-          (λ (c : ℕ) (same : c ≡ at). bucket_cell node level (same ∙ place_is id is))
+          (λ (c : ℕ) (same : c ≡ node + half). bucket_cell node level (same ∙ place_is node id is))
           (λ (c : ℕ) (rests : PathRests g mid.image (sought_in mid.cells g id) c node level).
-          own_rests body (stands_later read.viewed stands) mine rests ∙ sym (place_is id is))
+          own_rests body (stands_later read.viewed stands) mine rests ∙ sym (place_is node id is))
           (read.ends tells).1;
     }
 
@@ -194,19 +195,16 @@ module _ (g : Layout) (n : ℕ) (digest : List ℕ) (node level at : ℕ) (at_is
           ends = λ id is. fails_later old mid past why read.viewed mate.ends;
         }
 
-        module _ (mate : ListsMate g digest b mid past first second (Ok tt)) (under : ℕ)
-            (under_is : under ≡ node + 16 + nibble digest level) (low : ViewState) (third : List (ℕ × List ℕ)) where
+        module _ (mate : ListsMate g digest b mid past first second (Ok tt)) (low : ViewState)
+            (third : List (ℕ × List ℕ)) where
           told_mid : IsTrue old.base.tells → IsTrue mid.base.tells
           told_mid tells = subst IsTrue (sym read.viewed.called.tells) tells
 
           told_past : IsTrue old.base.tells → IsTrue past.base.tells
           told_past tells = subst IsTrue (sym mate.viewed.called.tells) (told_mid tells)
 
-          under_place : (id : List ℕ) → digest ≡ sha256 id → under ≡ node + 16 + nibble (sha256 id) level
-          under_place id is = under_is ∙ ap (λ (d : List ℕ). node + 16 + nibble d level) is
-
           -- the child cell is not listed
-          pub child_fails : (why : AskFault) → ListsChild under past low second third (Err why)
+          pub child_fails : (why : AskFault) → ListsChild (node + 16 + half) past low second third (Err why)
               → ListsDown g n digest node level old low listed third (Err why)
           child_fails why child = record {
             viewed = viewed_then read.viewed (viewed_then mate.viewed child.viewed);
@@ -214,7 +212,7 @@ module _ (g : Layout) (n : ℕ) (digest : List ℕ) (node level at : ℕ) (at_is
           }
 
           -- there is none
-          pub child_lacks : ListsChild under past low second third (Ok None)
+          pub child_lacks : ListsChild (node + 16 + half) past low second third (Ok None)
               → ListsDown g n digest node level old low listed third (Ok tt)
           child_lacks child = record {
             viewed = viewed_then read.viewed (viewed_then mate.viewed child.viewed);
@@ -222,10 +220,10 @@ module _ (g : Layout) (n : ℕ) (digest : List ℕ) (node level at : ℕ) (at_is
                 let way = onward id is tells trail in
                 let told = told_past tells in
                 absurd (child.ends told way.1 (subst (λ (c : ℕ). Holds past.image c (records.Child way.1))
-                (sym (under_place id is)) (holds_on mate.viewed.image way.2.child)));
+                (sym (place_is (node + 16) id is)) (holds_on mate.viewed.image way.2.child)));
           }
 
-          module _ (target : ℕ) (child : ListsChild under past low second third (Ok (Some target))) where
+          module _ (target : ℕ) (child : ListsChild (node + 16 + half) past low second third (Ok (Some target))) where
             -- the child is that of the trail
             leads_there : (id : List ℕ) → digest ≡ sha256 id → IsTrue old.base.tells
                 → HashTrail old.image (sought_in old.cells g id) n node level
@@ -236,7 +234,7 @@ module _ (g : Layout) (n : ℕ) (digest : List ℕ) (node level at : ℕ) (at_is
                 let later = viewed_then mate.viewed child.viewed in
                 let leads = leads_later g later way.2 in
                 let found : Holds low.image (node + 16 + nibble (sha256 id) level) (records.Child target) =
-                subst (λ (c : ℕ). Holds low.image c (records.Child target)) (under_place id is)
+                subst (λ (c : ℕ). Holds low.image c (records.Child target)) (place_is (node + 16) id is)
                 (child.ends (told_past tells)).0 in
                 let one : way.1 ≡ target = children _ _ (one_record_holds low.image _ _ _ leads.child found) in (
                   subst (λ (t : ℕ). LeadsDown low.image (sought_in low.cells g id) node level t) one leads,
@@ -286,16 +284,16 @@ module _ (g : Layout) (n : ℕ) (digest : List ℕ) (node level at : ℕ) (at_is
                   λ same. (let h = mate_there (same ∙ sym (ap fingerprint_of is)) in
                   held_is_done (stands_held g past.cells past.image b.slot h.0 h.1 (volume_later mate.viewed mid_volume)
                   (stands_later mate.viewed h.2))) in
-                  let first_just = just_as (λ (c : ℕ) (same : c ≡ at). same ∙ place_is id is)
-                  (λ (c : ℕ) (same : c ≡ node + nibble (sha256 id) level). same ∙ sym (place_is id is))
+                  let first_just = just_as (λ (c : ℕ) (same : c ≡ node + half). same ∙ place_is node id is)
+                  (λ (c : ℕ) (same : c ≡ node + nibble (sha256 id) level). same ∙ sym (place_is node id is))
                   (read.ends tells).1 in
                   let second_just = just_as
                   (λ (c : ℕ) (k : IsOfMate g past digest b c). (k.0 ∙ ap fingerprint_of is, k.1))
                   (λ (c : ℕ) (k : (b.fingerprint ≡ fingerprint_of (sha256 id)) × SlotRests g past.image b.slot c).
                   (k.0 ∙ sym (ap fingerprint_of is), k.1))
                   (mate.ends (told_mid tells) mid_volume mate_there) in
-                  let third_just = just_as (λ (c : ℕ) (same : c ≡ under). same ∙ under_place id is)
-                  (λ (c : ℕ) (same : c ≡ node + 16 + nibble (sha256 id) level). same ∙ sym (under_place id is))
+                  let third_just = just_as (λ (c : ℕ) (same : c ≡ node + 16 + half). same ∙ place_is (node + 16) id is)
+                  (λ (c : ℕ) (same : c ≡ node + 16 + nibble (sha256 id) level). same ∙ sym (place_is (node + 16) id is))
                   (child.ends told).1 in
                   let last_just = rest.ends id is (subst IsTrue (sym child.viewed.called.tells) told)
                   (volume_later to_low volume) body (stands_later to_low stands) down.1 in

@@ -296,7 +296,7 @@ turn_counted old now new from w v agreed a slot n q slots k asks after agrees no
           landed = λ e. there;
         }
 
-module _ (old now new : ListsState) (from w agreed slot : ℕ) (s : CommonSoFar old now from w agreed slot)
+module _ {old now new : ListsState} {from w agreed slot : ℕ} (s : CommonSoFar old now from w agreed slot)
     (kept : Keeps now new) where
   both : Keeps old new
   both = keeps_then s.kept kept
@@ -427,10 +427,9 @@ smaller slot n agreed a count agrees under not_all most = ⊎_elim
     omega (arith, same.1, not_all, ap (λ (x : ℕ). (16777216 - x) * (count + 1)) same.0))
     agrees
 
-pub end_costs : (old now : ListsState) (from w agreed slot : ℕ) → CommonSoFar old now from w agreed slot
+pub end_costs : {old now : ListsState} {from w agreed slot : ℕ} → CommonSoFar old now from w agreed slot
     → JoinCosts from old now (Ok None)
-end_costs old now from w agreed slot s = none_left old now now from w agreed slot s (keeps_self now)
-    (omega arith) (omega arith)
+end_costs {now = now} s = none_left s (keeps_self now) (omega arith) (omega arith)
 
 pub not_all_yet : (lists slot n agreed a : ℕ) → HasAgreed n slot agreed a → agreed < lists → (a ≡ lists → ⊥) → a < lists
 not_all_yet lists slot n agreed a agrees not_all other = ⊎_elim

@@ -1,5 +1,5 @@
 -- One cell after another.
-use Rattle.std.proofs.Common.{◌≡◌, ◌<◌, ◌≤◌, ◌+◌, List, Option, Some, ℕ, ap, sym, ◌∙◌, arith}
+use Rattle.std.proofs.Common.{◌+◌, List, Option, Some, ℕ, ap, sym, ◌∙◌, arith}
 use Rattle.std.proofs.lemmas.Option.{slice_get-get_or}
 use Rattle.jump_block.proofs.Rowing.{row_more, row_starts}
 use Rattle.jump_block.proofs.row_fronts.know_row.Goals as goal

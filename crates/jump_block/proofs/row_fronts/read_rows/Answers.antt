@@ -1,6 +1,5 @@
 -- Row after row.
-use Rattle.std.proofs.Common.{◌+◌, ◌*◌, ℕ, refl, ap, sym, ◌∙◌, arith}
-use Rattle.worm_device.proofs.Resting.{viewed_self}
+use Rattle.std.proofs.Common.{◌+◌, ◌*◌, refl, arith}
 use Rattle.cell_types.proofs.Passed.{handed}
 use Rattle.jump_block.proofs.Rowing.{row_read, row_all, row_failed}
 use Rattle.jump_block.proofs.row_fronts.read_rows.Goals as goal

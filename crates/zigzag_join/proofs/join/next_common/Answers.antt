@@ -1,11 +1,9 @@
 -- Each turn, and each exit.
-use Rattle.std.proofs.Common.{◌+◌, ◌<◌, ℕ, Bool, Option, Ok, IsTrue, inl, inr, ⊎_elim, arith, sym, subst, ◌∙◌}
+use Rattle.std.proofs.Common.{◌+◌, ◌<◌, IsTrue, inl, inr, ⊎_elim, arith, sym, ◌∙◌}
 use Rattle.cell_types.proofs.Passed.{handed}
-use Rattle.zigzag_join.specs.Joins.{AllHaveEnds, IsTurnAfter}
-use Rattle.zigzag_join.specs.Lists.{LandEnds}
-use Rattle.zigzag_join.specs.declared.lists.Landing.{Landing}
-use Rattle.zigzag_join.proofs.Joining.{all_vouch, asked_costs, end_costs, found_costs, keeps_then, none_left, none_vouch, not_all_yet, skip_more, smaller, so_far_none, turn_more, vouch_more}
+use Rattle.zigzag_join.proofs.Joining.{CommonSoFar, LastVouch, all_vouch, asked_costs, end_costs, found_costs, keeps_then, none_left, none_vouch, not_all_yet, skip_more, smaller, so_far_none, turn_more, vouch_more}
 use Rattle.zigzag_join.proofs.join.next_common.Goals as goal
+use Rattle.zigzag_join.proofs.join.next_common.Goals.{After-turn_after-which}
 
 pub loop-slot-init : goal.loop-slot-init
 loop-slot-init g c = record {
@@ -14,63 +12,56 @@ loop-slot-init g c = record {
   vouched = λ yes. none_vouch (g.Q.Lists.state c.args.lists.now).lists (g.Q.Lists.state c.args.lists.now) 0 c.args.from;
 }
 
+-- a turn more
+turn : (g : _) (c : After-turn_after-which g) → CommonSoFar (g.Q.Lists.state c.args.lists.now)
+    (g.Q.Lists.state c.land.new.self) c.args.from c.turn_after-which.result c.agreed_at-agreed.result c.in-Some.next.slot
+turn g c =
+    turn_more c.loop-slot.invariant.so_far.so_far c.in_ok-next.ensures.kept _ _ _ c.loop-slot.invariant.so_far.not_all
+    c.in_ok-next.ensures.asks (rw c.in-Some.is at c.in_ok-next.ensures.ends).0
+    (rw c.loop-slot.invariant.count at c.turn_after-which.ensures) c.agreed_at-agreed.ensures
+
+-- where `vouched` says so, each list that has come to the slot vouches for it
+vouches : (g : _) (c : After-turn_after-which g) → IsTrue c.vouched_at-vouched.result
+    → LastVouch (g.Q.Lists.state c.args.lists.now).lists (g.Q.Lists.state c.land.new.self) c.turn_after-which.result
+    c.agreed_at-agreed.result c.in-Some.next.slot
+vouches g c all =
+    vouch_more (g.Q.Lists.state c.args.lists.now).lists (g.Q.Lists.state c.loop-slot.lists)
+    (g.Q.Lists.state c.land.new.self) c.loop-slot.which c.turn_after-which.result c.loop-slot.agreed
+    c.agreed_at-agreed.result c.loop-slot.slot c.in-Some.next.slot
+    (rw c.loop-slot.invariant.count at c.turn_after-which.ensures) c.agreed_at-agreed.ensures
+    c.in_ok-next.ensures.kept ((rw c.in-Some.is at c.in_ok-next.ensures.ends).1 (c.vouched_at-vouched.ensures.own all))
+    (⊎_elim (λ (up : c.loop-slot.slot < c.in-Some.next.slot). inl up)
+    (λ (before : IsTrue c.loop-slot.vouched). inr (c.loop-slot.invariant.vouched before))
+    (c.vouched_at-vouched.ensures.others all))
+
 -- a list has no more
 pub returns-in_default-clause-costs : goal.returns-in_default-clause-costs
 returns-in_default-clause-costs g c =
-    none_left (g.Q.Lists.state c.args.lists.now) (g.Q.Lists.state c.loop-slot.lists) (g.Q.Lists.state c.land.new.self)
-    c.args.from c.loop-slot.which c.loop-slot.agreed c.loop-slot.slot c.loop-slot.invariant.so_far.so_far
-    c.in_ok-next.ensures.kept c.in_ok-next.ensures.asks.0 (omega (arith, c.in_ok-next.ensures.asks.1))
+    none_left c.loop-slot.invariant.so_far.so_far c.in_ok-next.ensures.kept c.in_ok-next.ensures.asks.0
+    (omega (arith, c.in_ok-next.ensures.asks.1))
 
 -- it gives no answer
 pub returns-in_err-next-clause-costs : goal.returns-in_err-next-clause-costs
 returns-in_err-next-clause-costs g c =
     rw (handed c.from_residual.result c.in_err-next.field-0.0 c.from_residual.ensures.1)
-    (none_left (g.Q.Lists.state c.args.lists.now) (g.Q.Lists.state c.loop-slot.lists) (g.Q.Lists.state c.land.new.self)
-    c.args.from c.loop-slot.which c.loop-slot.agreed c.loop-slot.slot c.loop-slot.invariant.so_far.so_far
-    c.in_err-next.ensures.kept c.in_err-next.ensures.asks.0 (omega (arith, c.in_err-next.ensures.asks.1)))
+    (none_left c.loop-slot.invariant.so_far.so_far c.in_err-next.ensures.kept c.in_err-next.ensures.asks.0
+    (omega (arith, c.in_err-next.ensures.asks.1)))
 
 -- those that have come to the slot, which are all, are not asked where each vouches for it
 pub all_have-requires-clause-vouched : goal.all_have-requires-clause-vouched
 all_have-requires-clause-vouched g c = λ yes.
-    let old = g.Q.Lists.state c.args.lists.now in
-    let now = g.Q.Lists.state c.loop-slot.lists in
-    let mid = g.Q.Lists.state c.land.new.self in
-    let turn = turn_more old now mid c.args.from c.loop-slot.which c.loop-slot.agreed c.loop-slot.slot
-    c.loop-slot.invariant.so_far.so_far c.in_ok-next.ensures.kept c.turn_after-which.result c.agreed_at-agreed.result
-    c.in-Some.next.slot c.loop-slot.invariant.so_far.not_all c.in_ok-next.ensures.asks
-    (subst (λ (o : Option Landing). LandEnds c.loop-slot.which c.loop-slot.slot now mid (Ok o)) c.in-Some.is
-    c.in_ok-next.ensures.ends).0
-    (subst (λ (k : ℕ). IsTurnAfter k c.loop-slot.which c.turn_after-which.result) c.loop-slot.invariant.count
-    c.turn_after-which.ensures) c.agreed_at-agreed.ensures in
-    all_vouch old.lists mid c.turn_after-which.result c.agreed_at-agreed.result c.in-Some.next.slot turn.kept.lists
-    turn.one_of_them (c.if-agreed-count.true ∙ c.loop-slot.invariant.count)
-    (vouch_more old.lists now mid c.loop-slot.which c.turn_after-which.result c.loop-slot.agreed
-    c.agreed_at-agreed.result c.loop-slot.slot c.in-Some.next.slot
-    (subst (λ (k : ℕ). IsTurnAfter k c.loop-slot.which c.turn_after-which.result) c.loop-slot.invariant.count
-    c.turn_after-which.ensures)
-    c.agreed_at-agreed.ensures c.in_ok-next.ensures.kept
-    ((subst (λ (o : Option Landing). LandEnds c.loop-slot.which c.loop-slot.slot now mid (Ok o)) c.in-Some.is
-    c.in_ok-next.ensures.ends).1 (c.vouched_at-vouched.ensures.own yes))
-    (⊎_elim (λ (up : c.loop-slot.slot < c.in-Some.next.slot). inl up)
-    (λ (before : IsTrue c.loop-slot.vouched). inr (c.loop-slot.invariant.vouched before))
-    (c.vouched_at-vouched.ensures.others yes)))
+    let at = (goal.at.all_have-requires-clause-vouched g c).After-turn_after-which in
+    let so_far = turn g at in
+    all_vouch (g.Q.Lists.state c.args.lists.now).lists (g.Q.Lists.state c.land.new.self) c.turn_after-which.result
+    c.agreed_at-agreed.result c.in-Some.next.slot so_far.kept.lists so_far.one_of_them
+    (c.if-agreed-count.true ∙ c.loop-slot.invariant.count) (vouches g at yes)
 
 -- all have come to the slot
 pub returns-then-branch-clause-costs : goal.returns-then-branch-clause-costs
 returns-then-branch-clause-costs g c =
-    let old = g.Q.Lists.state c.args.lists.now in
-    let now = g.Q.Lists.state c.loop-slot.lists in
-    let mid = g.Q.Lists.state c.land.new.self in
-    let turn = turn_more old now mid c.args.from c.loop-slot.which c.loop-slot.agreed c.loop-slot.slot
-    c.loop-slot.invariant.so_far.so_far c.in_ok-next.ensures.kept c.turn_after-which.result c.agreed_at-agreed.result
-    c.in-Some.next.slot c.loop-slot.invariant.so_far.not_all c.in_ok-next.ensures.asks
-    (subst (λ (o : Option Landing). LandEnds c.loop-slot.which c.loop-slot.slot now mid (Ok o)) c.in-Some.is
-    c.in_ok-next.ensures.ends).0
-    (subst (λ (k : ℕ). IsTurnAfter k c.loop-slot.which c.turn_after-which.result) c.loop-slot.invariant.count
-    c.turn_after-which.ensures) c.agreed_at-agreed.ensures in
-    found_costs old mid (g.Q.Lists.state c.all_have.new.lists) c.args.from c.turn_after-which.result
-    c.agreed_at-agreed.result c.in-Some.next.slot turn c.in_ok-all_have.ensures.kept
-    (c.if-agreed-count.true ∙ c.loop-slot.invariant.count) c.in_ok-all_have.ensures.next_asks
+    found_costs (turn g (goal.at.returns-then-branch-clause-costs g c).After-turn_after-which)
+    c.in_ok-all_have.ensures.kept (c.if-agreed-count.true ∙ c.loop-slot.invariant.count)
+    c.in_ok-all_have.ensures.next_asks
     (omega (arith, c.in_ok-all_have.ensures.has_asks, c.loop-slot.invariant.count))
 
 -- one of them gives no answer
@@ -78,96 +69,52 @@ pub returns-in_err-all_have-clause-costs : goal.returns-in_err-all_have-clause-c
 returns-in_err-all_have-clause-costs g c =
     rw (handed c.from_residual-in_err-all_have.result c.in_err-all_have.field-0.0
     c.from_residual-in_err-all_have.ensures.1)
-    (let old = g.Q.Lists.state c.args.lists.now in
-    let now = g.Q.Lists.state c.loop-slot.lists in
-    let mid = g.Q.Lists.state c.land.new.self in
-    let turn = turn_more old now mid c.args.from c.loop-slot.which c.loop-slot.agreed c.loop-slot.slot
-    c.loop-slot.invariant.so_far.so_far c.in_ok-next.ensures.kept c.turn_after-which.result c.agreed_at-agreed.result
-    c.in-Some.next.slot c.loop-slot.invariant.so_far.not_all c.in_ok-next.ensures.asks
-    (subst (λ (o : Option Landing). LandEnds c.loop-slot.which c.loop-slot.slot now mid (Ok o)) c.in-Some.is
-    c.in_ok-next.ensures.ends).0
-    (subst (λ (k : ℕ). IsTurnAfter k c.loop-slot.which c.turn_after-which.result) c.loop-slot.invariant.count
-    c.turn_after-which.ensures) c.agreed_at-agreed.ensures in
-    asked_costs old mid (g.Q.Lists.state c.all_have.new.lists) c.args.from c.turn_after-which.result
-    c.agreed_at-agreed.result c.in-Some.next.slot turn c.in_err-all_have.ensures.kept
-    (c.if-agreed-count.true ∙ c.loop-slot.invariant.count) c.in_err-all_have.ensures.next_asks
+    (asked_costs (turn g (goal.at.returns-in_err-all_have-clause-costs g c).After-turn_after-which)
+    c.in_err-all_have.ensures.kept (c.if-agreed-count.true ∙ c.loop-slot.invariant.count)
+    c.in_err-all_have.ensures.next_asks
     (omega (arith, c.in_err-all_have.ensures.has_asks, c.loop-slot.invariant.count)))
 
 -- not all of them have it
 pub loop-slot-preserved-then-agreed-count : goal.loop-slot-preserved-then-agreed-count
 loop-slot-preserved-then-agreed-count g c =
-    let old = g.Q.Lists.state c.args.lists.now in
-    let now = g.Q.Lists.state c.loop-slot.lists in
-    let mid = g.Q.Lists.state c.land.new.self in
-    let turn = turn_more old now mid c.args.from c.loop-slot.which c.loop-slot.agreed c.loop-slot.slot
-    c.loop-slot.invariant.so_far.so_far c.in_ok-next.ensures.kept c.turn_after-which.result c.agreed_at-agreed.result
-    c.in-Some.next.slot c.loop-slot.invariant.so_far.not_all c.in_ok-next.ensures.asks
-    (subst (λ (o : Option Landing). LandEnds c.loop-slot.which c.loop-slot.slot now mid (Ok o)) c.in-Some.is
-    c.in_ok-next.ensures.ends).0
-    (subst (λ (k : ℕ). IsTurnAfter k c.loop-slot.which c.turn_after-which.result) c.loop-slot.invariant.count
-    c.turn_after-which.ensures) c.agreed_at-agreed.ensures in
+    let at = (goal.at.loop-slot-preserved-then-agreed-count g c).After-turn_after-which in
+    let now = g.Q.Lists.state c.all_have.new.lists in
     record {
       count = c.loop-slot.invariant.count;
-      so_far = skip_more old mid (g.Q.Lists.state c.all_have.new.lists) c.args.from c.turn_after-which.result
-          c.agreed_at-agreed.result c.in-Some.next.slot turn c.in_ok-all_have.ensures.kept
+      so_far = skip_more (turn g at) c.in_ok-all_have.ensures.kept
           (c.if-agreed-count.true ∙ c.loop-slot.invariant.count) c.in_ok-all_have.ensures.next_asks
           (omega (arith, c.in_ok-all_have.ensures.has_asks, c.loop-slot.invariant.count))
-          (subst (λ (o : Option Landing). LandEnds c.loop-slot.which c.loop-slot.slot now mid (Ok o)) c.in-Some.is
-          c.in_ok-next.ensures.ends).0.1
-          (subst (λ (b : Bool). AllHaveEnds c.in-Some.next.slot mid (g.Q.Lists.state c.all_have.new.lists) (Ok b))
-          c.if-branch.false c.in_ok-all_have.ensures.ends);
-      vouched = λ yes. none_vouch old.lists (g.Q.Lists.state c.all_have.new.lists) c.turn_after-which.result
+          (rw c.in-Some.is at c.in_ok-next.ensures.ends).0.1
+          (rw c.if-branch.false at c.in_ok-all_have.ensures.ends);
+      vouched = λ yes. none_vouch (g.Q.Lists.state c.args.lists.now).lists now c.turn_after-which.result
           (c.in-Some.next.slot + 1);
     }
 
 pub loop-slot-smaller : goal.loop-slot-smaller
 loop-slot-smaller g c =
-    let ends = (subst (λ (o : Option Landing). LandEnds c.loop-slot.which c.loop-slot.slot
-    (g.Q.Lists.state c.loop-slot.lists) (g.Q.Lists.state c.land.new.self) (Ok o)) c.in-Some.is
-    c.in_ok-next.ensures.ends).0 in
     smaller c.loop-slot.slot c.in-Some.next.slot c.loop-slot.agreed c.agreed_at-agreed.result c.count-count.result
     c.agreed_at-agreed.ensures c.loop-slot-test.true
-    (omega (arith, c.loop-slot.invariant.so_far.not_all, c.loop-slot.invariant.count)) (omega (arith, ends.1))
+    (omega (arith, c.loop-slot.invariant.so_far.not_all, c.loop-slot.invariant.count))
+    (omega (arith, (rw c.in-Some.is at c.in_ok-next.ensures.ends).0.1))
 
--- a turn more
 pub loop-slot-preserved : goal.loop-slot-preserved
 loop-slot-preserved g c =
-    let old = g.Q.Lists.state c.args.lists.now in
-    let now = g.Q.Lists.state c.loop-slot.lists in
-    let mid = g.Q.Lists.state c.land.new.self in
-    let turn = turn_more old now mid c.args.from c.loop-slot.which c.loop-slot.agreed c.loop-slot.slot
-    c.loop-slot.invariant.so_far.so_far c.in_ok-next.ensures.kept c.turn_after-which.result c.agreed_at-agreed.result
-    c.in-Some.next.slot c.loop-slot.invariant.so_far.not_all c.in_ok-next.ensures.asks
-    (subst (λ (o : Option Landing). LandEnds c.loop-slot.which c.loop-slot.slot now mid (Ok o)) c.in-Some.is
-    c.in_ok-next.ensures.ends).0
-    (subst (λ (k : ℕ). IsTurnAfter k c.loop-slot.which c.turn_after-which.result) c.loop-slot.invariant.count
-    c.turn_after-which.ensures) c.agreed_at-agreed.ensures in
+    let at = (goal.at.loop-slot-preserved g c).After-turn_after-which in
     record {
       count = c.loop-slot.invariant.count;
       so_far = record {
-        so_far = turn;
-        not_all = not_all_yet old.lists c.loop-slot.slot c.in-Some.next.slot c.loop-slot.agreed c.agreed_at-agreed.result
-            c.agreed_at-agreed.ensures c.loop-slot.invariant.so_far.not_all
+        so_far = turn g at;
+        not_all = not_all_yet (g.Q.Lists.state c.args.lists.now).lists c.loop-slot.slot c.in-Some.next.slot
+            c.loop-slot.agreed c.agreed_at-agreed.result c.agreed_at-agreed.ensures
+            c.loop-slot.invariant.so_far.not_all
             (λ same. c.if-agreed-count.false (same ∙ sym c.loop-slot.invariant.count));
       };
-      vouched = λ yes.
-          vouch_more old.lists now mid c.loop-slot.which c.turn_after-which.result c.loop-slot.agreed
-          c.agreed_at-agreed.result c.loop-slot.slot c.in-Some.next.slot
-          (subst (λ (k : ℕ). IsTurnAfter k c.loop-slot.which c.turn_after-which.result) c.loop-slot.invariant.count
-          c.turn_after-which.ensures)
-          c.agreed_at-agreed.ensures c.in_ok-next.ensures.kept
-          ((subst (λ (o : Option Landing). LandEnds c.loop-slot.which c.loop-slot.slot now mid (Ok o)) c.in-Some.is
-          c.in_ok-next.ensures.ends).1 (c.vouched_at-vouched.ensures.own yes))
-          (⊎_elim (λ (up : c.loop-slot.slot < c.in-Some.next.slot). inl up)
-          (λ (before : IsTrue c.loop-slot.vouched). inr (c.loop-slot.invariant.vouched before))
-          (c.vouched_at-vouched.ensures.others yes));
+      vouched = vouches g at;
     }
 
 -- past the last slot
 pub returns-clause-costs : goal.returns-clause-costs
-returns-clause-costs g c =
-    end_costs (g.Q.Lists.state c.args.lists.now) (g.Q.Lists.state c.loop-slot.lists)
-    c.args.from c.loop-slot.which c.loop-slot.agreed c.loop-slot.slot c.loop-slot.invariant.so_far.so_far
+returns-clause-costs g c = end_costs c.loop-slot.invariant.so_far.so_far
 
 -- what every call keeps, over the calls before and the last ones
 pub returns-in_err-next-clause-kept : goal.returns-in_err-next-clause-kept
