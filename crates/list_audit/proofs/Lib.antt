@@ -10,5 +10,6 @@ pub mod Placing
 pub mod Spelling
 pub mod Stepping
 pub mod Tabling
+mod Taking
 pub mod Trailing
 pub mod Walking

@@ -30,6 +30,7 @@
 //! `blocks.rt`, then `rules.rt`; `specs/Blocks.antt` says what the blocks of all lists are.
 #![tactic(auto)]
 
+mod between;
 mod blocks;
 mod bodies;
 mod entries;
@@ -46,8 +47,9 @@ mod table;
 mod targets;
 mod trails;
 
-pub use blocks::blocks_of;
+pub use blocks::{blocks_for_two, blocks_of};
 pub use entries::first_broken_entry;
+pub use found::ListBlocks;
 pub use held_posting::posting_at;
 pub use listed::ListBlock;
 pub use postings::first_broken_posting;
