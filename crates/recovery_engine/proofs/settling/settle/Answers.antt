@@ -284,7 +284,8 @@ returns g c =
     let small : n < MAX_SLOTS = omega (arith, some, c.in_ok-log.ensures.within, opened.1.slots) in
     let cells_is = sym c.reservation.ensures ∙ c.in-Some-reservation.is in
     let within = of_pool layout state c.in-Some-reservation.cells c.in_ok-state.ensures.ends.0 cells_is in
-    slot_ended g at.After-end_slot _ known (λ okay. c.in_ok-end_slot.ensures.phases) c.step_of.ensures next (λ tells. tt) (
+    slot_ended g at.After-end_slot _ known (λ okay. c.in_ok-end_slot.ensures.phases) c.step_of.ensures next
+    (λ tells. tt) (
       record {
         version = opened.0;
         layout = opened.1;
