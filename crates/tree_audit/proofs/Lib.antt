@@ -1,4 +1,5 @@
 pub mod Closing
+pub mod EachNode
 pub mod ForTwo
 pub mod Going
 pub mod Judging

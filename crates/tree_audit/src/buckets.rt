@@ -36,7 +36,7 @@ pub fn first_broken_bucket(volume: &KeptVolume, nodes: &[LevelNode]) -> Option<E
 }
 
 /// Whether a cell lies behind what was found. Nothing that is broken there is the least.
-fn lies_behind(found: &Option<Evidence>, cell: u32) -> bool
+pub(crate) fn lies_behind(found: &Option<Evidence>, cell: u32) -> bool
     ensures { IsTrue result → IsBehind found.now cell }
 {
     let Some(least) = found else {

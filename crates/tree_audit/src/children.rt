@@ -14,6 +14,7 @@ ghost use Rattle.tree_audit.specs.Children.{AsksChild, HasCopyOf, IsClear, IsJou
 ghost use Rattle.tree_audit.specs.Nodes.{AreNodes, HasChildInPool};
 
 use crate::around::{Around, TARGET_STEP, around_of};
+use crate::buckets::lies_behind;
 use crate::looks::child_at;
 use crate::nodes::{LAST_LEVEL, LevelNode};
 use cell_types::{Cell, Evidence, Geometry, NoMemory};
@@ -40,6 +41,10 @@ pub fn first_broken_child(
     let around = around_of(alloc, &volume.kept, &volume.geometry, nodes, blocks)?;
     let mut least = None;
     for place in nodes {
+        // Nodes do not come by rising cells, and no child cell behind the least is asked for.
+        if lies_behind(&least, place.node) {
+            continue;
+        }
         let found = broken_under(volume, &around, place);
         least = lower_of(least, found);
     }
