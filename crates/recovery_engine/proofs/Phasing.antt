@@ -1,5 +1,6 @@
 -- Cells that are put one after another, and phases that follow one another.
 use Rattle.std.proofs.Common.{true, false, ◌≡◌, ◌≤◌, ◌<◌, ◌+◌, ◌-◌, ◌⊎◌, ℕ, List, Option, Some, None, Result, Ok, Err, refl, sym, ◌∙◌, inl, inr, ⊎_elim, subst, arith}
+use Rattle.std.proofs.lemmas.Option.{none-some, same_Some}
 use Rattle.std.specs.Prelude.{IsTrue}
 use Rattle.cell_types.specs.Image.{Image, Extends, Between, IsUnchanged, ChangesOnly}
 use Rattle.cell_types.specs.declared.refusal.Evidence.{Evidence}
@@ -17,17 +18,11 @@ use Rattle.worm_device.proofs.Images.{extends_then}
 use Rattle.recovery_engine.specs.declared.put.Put.{Put}
 use Rattle.recovery_engine.specs.Putting.{AreStanding, IsPut, ChangesBy, IsPutTwice, IsTaken, PutsEnd, Puts, PhaseEnds, PutsPhase, IsInFirst, LeavesPhases, CrashesLeavePhases, PhasesEnd, PutsPhases, IsThis}
 
-none_some : (a : List ℕ) → Some a ≡ None → ⊥
-none_some a e = cc
-
 pub false_true : false ≡ true → ⊥
 false_true e = cc
 
-some_is : (a b : List ℕ) → Some a ≡ Some b → a ≡ b
-some_is a b e = cc
-
 -- a blank cell, or what stands in it
-by_cell : (R : Type 0) (found : Option (List ℕ)) → (found ≡ None → R) → ((v : List ℕ) → found ≡ Some v → R) → R
+pub by_cell : (R : Type 0) (found : Option (List ℕ)) → (found ≡ None → R) → ((v : List ℕ) → found ≡ Some v → R) → R
 by_cell R None none some = none refl
 by_cell R (Some v) none some = some v refl
 
@@ -60,7 +55,7 @@ changes_then {P} {Q} {R} {a} {b} {c} left right grows p q at value h = ⊎_elim
       is =
           put.is;
     }))
-    (λ v is. absurd (none_some v (sym (grows.keeps at v is) ∙ put.blank))))
+    (λ v is. absurd (none-some v (sym put.blank ∙ grows.keeps at v is))))
     (q at value h)
 
 twice_wider : {P R : Put → Type 0} {put : Put} {found : List ℕ} → ((put : Put) → P put → R put)
@@ -265,7 +260,7 @@ phase_told {P} {R} {old} {new} {result} to back phase = record {
     sure (Ok u) h = λ tells. record { put = λ put r. (h tells).put put (back tells put r); synced = (h tells).synced }
     sure (Err fault) h = tt
 
-below_or_at : (j k : ℕ) → j < k + 1 → (j < k) ⊎ (j ≡ k)
+pub below_or_at : (j k : ℕ) → j < k + 1 → (j < k) ⊎ (j ≡ k)
 below_or_at j k h = grind arith
 
 module _ (plan : ℕ → Put → Type 0) where
@@ -537,6 +532,6 @@ written_done put old new written writes stands = record {
           put = put;
           planned = refl;
           here = sym p.0;
-          is = some_is put.value value (sym p.2 ∙ h);
+          is = same_Some put.value value (sym p.2 ∙ h);
         }))
         (only at)
