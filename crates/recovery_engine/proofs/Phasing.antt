@@ -58,6 +58,7 @@ changes_then {P} {Q} {R} {a} {b} {c} left right grows p q at value h = ⊎_elim
     (λ v is. absurd (none-some v (sym put.blank ∙ grows.keeps at v is))))
     (q at value h)
 
+-- a value that was put twice, among more that were to be put
 twice_wider : {P R : Put → Type 0} {put : Put} {found : List ℕ} → ((put : Put) → P put → R put)
     → IsPutTwice P put found → IsPutTwice R put found
 twice_wider wider t = record { other = t.other; planned = wider t.other t.planned; here = t.here; is = t.is }
@@ -138,6 +139,7 @@ module _ {P Q R : Put → Type 0} (left : (put : Put) → P put → R put) (righ
       refl,
     )
 
+    -- so the later ones end for all together as they end by themselves
     ended : (fault : Fault) → Called mid new → PutsEnd Q mid new (Err fault) → PutsEnd R old new (Err fault)
     ended faults.Failed called ends = omega (arith, ends, first.called.faults)
     ended (Tampered e) called ends = λ tells. (taken_then called tells (ends (tells_mid tells))).0
@@ -296,6 +298,7 @@ module _ (plan : ℕ → Put → Type 0) where
     only = λ still. l.only (still_first first.foreign_writes then.foreign_writes still);
   }
 
+  -- so a crash leaves among more phases what it leaves among some
   pub crashes_wider : (k next : ℕ) {old new : DeviceState} → k ≤ next → Called old new
       → CrashesLeavePhases plan k old new → CrashesLeavePhases plan next old new
   crashes_wider k next {old} {new} more called crashes tells since image le left = ⊎_elim inl
@@ -435,7 +438,7 @@ module _ (plan next : ℕ → Put → Type 0) (k m : ℕ) (to : (j : ℕ) (put :
       (below_or_from h.0)
 
   module _ {old mid : DeviceState} (u : Unit {0}) (first : PutsPhases plan k old mid (Ok u)) where
-    -- what was sure before the other row stands in an image that holds it, and so does what stood at first
+    -- what was to be put in either row stands in an image that holds what was sure between them
     append_all : IsTrue old.tells → (n : ℕ) {image : Image} → Extends mid.sure image
         → AreStanding (IsInFirst next n) image → AreStanding (IsInFirst plan (k + n)) image
     append_all tells n sure all put h = ⊎_elim
@@ -443,6 +446,7 @@ module _ (plan next : ℕ → Put → Type 0) (k m : ℕ) (to : (j : ℕ) (put :
         (λ (later : IsInFirst next n put). all put later)
         (append_covers n put h)
 
+    -- and so does what stood at first, once a sync was made
     append_synced : IsTrue old.tells → (n : ℕ) {image : Image} → Extends mid.sure image
         → (1 ≤ n → Extends mid.image image) → 1 ≤ k + n → Extends old.image image
     append_synced tells n sure synced some = ⊎_elim
