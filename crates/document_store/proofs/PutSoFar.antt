@@ -48,8 +48,8 @@ fill_begins old p piece is = record {
   read = λ start bytes given h. subst (HasRead old start bytes p) (sym (append-nil given)) h;
 }
 
-module _ (old now new : ViewState) (p q r : Position) (size k : ℕ) (piece : List ℕ)
-    (so_far : FillSoFar old now p q size k piece) (viewed : Viewed now new) where
+module _ {old now new : ViewState} {p q : Position} {size k : ℕ} {piece : List ℕ}
+    (so_far : FillSoFar old now p q size k piece) (viewed : Viewed now new) (r : Position) where
   -- one more
   pub fill_more : (byte : ℕ) → k < size → IsPosition r → r.start ≡ q.start → r.bytes ≡ q.bytes
       → new.base.reads + q.read ≤ now.base.reads + r.read → ByteEnds now new q r (Ok byte)
@@ -82,9 +82,9 @@ module _ (old now new : ViewState) (p q r : Position) (size k : ℕ) (piece : Li
   fill_fails contents.ReadFault less ends = omega (arith, so_far.faults, ends)
 
 -- all of them were
-pub fill_whole : (old now : ViewState) (p q : Position) (size k : ℕ) (piece : List ℕ)
+pub fill_whole : {old now : ViewState} {p q : Position} {size k : ℕ} {piece : List ℕ}
     → FillSoFar old now p q size k piece → size ≤ k → FillEnds old now p q piece (Ok tt)
-fill_whole old now p q size k piece so_far most = (
+fill_whole {now = now} {q = q} {k = k} {piece = piece} so_far most = (
   so_far.faults,
   λ s b given h.
       subst (λ (l : List ℕ). HasRead now s b q (given ++ l)) (take_all k piece (omega (arith, most, so_far.size_is)))
@@ -119,18 +119,18 @@ pub record PutSoFar (old now : ViewState) (start bytes : ℕ) (p q : Position) (
   pub faults : to.faults ≡ from.faults
   pub most : k ≤ h.body_length
 
-pub put_begins : (old : ViewState) (start bytes : ℕ) (p : Position) (h : Head) (sink : SinkState)
-    → IsHead old start bytes p h → PutSoFar old old start bytes p p h sink sink 0
-put_begins old start bytes p h sink head = record {
+pub put_begins : {old : ViewState} {start bytes : ℕ} {p : Position} {h : Head} → IsHead old start bytes p h
+    → (sink : SinkState) → PutSoFar old old start bytes p p h sink sink 0
+put_begins {old} {start} {bytes} {p} {h} head sink = record {
   read = body_none old start bytes p h head (viewed_self old);
   gets = gets_nothing sink.held;
   faults = refl;
   most = omega arith;
 }
 
-module _ (old now new : ViewState) (start bytes : ℕ) (p q r : Position) (h : Head) (from mid to : SinkState) (k : ℕ)
-    (piece : List ℕ) (head : IsHead old start bytes p h) (so_far : PutSoFar old now start bytes p q h from mid k)
-    (viewed : Viewed now new) where
+module _ {old now new : ViewState} {start bytes : ℕ} {p q : Position} {h : Head} {from mid : SinkState} {k : ℕ}
+    (head : IsHead old start bytes p h) (so_far : PutSoFar old now start bytes p q h from mid k)
+    (viewed : Viewed now new) (r : Position) (piece : List ℕ) where
   -- what was put before a piece that was not read
   got_before : GotFront new start bytes from mid
   got_before = record {
@@ -163,9 +163,9 @@ module _ (old now new : ViewState) (start bytes : ℕ) (p q r : Position) (h : H
         ends.1
 
     -- a piece was put
-    pub put_more : (n : ℕ) → length piece ≡ n → k + n ≤ h.body_length → Gets mid.held to.held piece
-        → to.faults ≡ mid.faults → PutSoFar old new start bytes p r h from to (k + n)
-    put_more n count room gets same = record {
+    pub put_more : (to : SinkState) (n : ℕ) → length piece ≡ n → k + n ≤ h.body_length
+        → Gets mid.held to.held piece → to.faults ≡ mid.faults → PutSoFar old new start bytes p r h from to (k + n)
+    put_more to n count room gets same = record {
       read = body_add old now new start bytes p q r h k n piece so_far.read viewed ends.0 is reads count ends.1;
       gets = gets_then from.held mid.held to.held so_far.read.body piece so_far.gets gets;
       faults = same ∙ so_far.faults;
@@ -173,8 +173,8 @@ module _ (old now new : ViewState) (start bytes : ℕ) (p q r : Position) (h : H
     }
 
     -- or a part of it
-    pub put_fails : PutsPart piece mid to → PutFails start bytes old new from to SinkFault
-    put_fails puts =
+    pub put_fails : (to : SinkState) → PutsPart piece mid to → PutFails start bytes old new from to SinkFault
+    put_fails to puts =
         let xs = so_far.read.body in
         let n = puts.gets.0 in
         let got = xs ++ take n piece in
@@ -196,10 +196,10 @@ module _ (old now new : ViewState) (start bytes : ℕ) (p q r : Position) (h : H
         )
 
 -- the whole body was put
-pub put_whole : (old now : ViewState) (start bytes : ℕ) (p q : Position) (h : Head) (from to : SinkState) (k : ℕ)
+pub put_whole : {old now : ViewState} {start bytes : ℕ} {p q : Position} {h : Head} {from to : SinkState} {k : ℕ}
     → IsHead old start bytes p h → PutSoFar old now start bytes p q h from to k → h.body_length ≤ k
     → PutRestEnds start bytes h old now from to (Ok tt)
-put_whole old now start bytes p q h from to k head so_far all =
+put_whole {old} {now} {start} {bytes} {p} {q} {h} {from} {to} {k} head so_far all =
     let at_end : k ≡ h.body_length = omega (arith, all, so_far.most) in
     let whole = subst (PutSoFar old now start bytes p q h from to) at_end so_far in (
       so_far.read.faults,

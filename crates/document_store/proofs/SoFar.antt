@@ -18,16 +18,15 @@ use Rattle.document_store.specs.declared.head.Head.{Head}
 use Rattle.document_store.proofs.Parsing.{none_broken, body_fits}
 
 -- a read that failed, after a row of reads that did not
-pub fault_on : (start bytes : ℕ) (old now new : ViewState) (p q : Position) (given : List ℕ) (fault : ContentFault)
-    → Viewed old now → now.base.faults ≡ old.base.faults → HasRead now start bytes p given → length given < bytes
-    → ByteEnds now new p q (Err fault) → HeadFaultEnds start bytes old new fault
-fault_on start bytes old now new p q given Broken before same h less ends = (
+pub fault_on : {start bytes : ℕ} {old now : ViewState} {p : Position} {given : List ℕ} (new : ViewState) (q : Position)
+    (fault : ContentFault) → Viewed old now → now.base.faults ≡ old.base.faults → HasRead now start bytes p given
+    → length given < bytes → ByteEnds now new p q (Err fault) → HeadFaultEnds start bytes old new fault
+fault_on {start} {bytes} {given = given} new q Broken before same h less ends = (
   ends.0 ∙ same,
   λ tells. none_broken new.image start bytes
       (ends.1 start bytes given h less (subst IsTrue (sym before.called.tells) tells)),
 )
-fault_on start bytes old now new p q given ReadFault before same h less ends =
-    omega (arith, same, ends)
+fault_on new q ReadFault before same h less ends = omega (arith, same, ends)
 
 -- the first read failed
 pub fault_first : (start bytes : ℕ) (old new : ViewState) (p q : Position) (fault : ContentFault)
@@ -124,11 +123,11 @@ body_add old now new start bytes p q r h k n piece so_far viewed same is reads c
 }
 
 -- one more
-abbrev pub body_more : (old now new : ViewState) (start bytes : ℕ) (p q r : Position) (h : Head) (k byte : ℕ)
+abbrev pub body_more : {old now new : ViewState} {start bytes : ℕ} {p q r : Position} {h : Head} {k : ℕ} (byte : ℕ)
     → BodySoFar old now start bytes p q h k → Viewed now new → IsPosition r
     → new.base.reads + q.read ≤ now.base.reads + r.read → ByteEnds now new q r (Ok byte)
     → BodySoFar old new start bytes p r h (k + 1)
-body_more old now new start bytes p q r h k byte so_far viewed is reads ends =
+body_more {old} {now} {new} {start} {bytes} {p} {q} {r} {h} {k} byte so_far viewed is reads ends =
     body_add old now new start bytes p q r h k 1 (byte ∷ []) so_far viewed ends.0 is reads refl ends.1
 
 -- nothing of it yet
@@ -153,11 +152,11 @@ body_left old now start bytes p q h k head so_far less =
     omega (arith, head.count, so_far.is_length, less, length-append (id_of h) so_far.body)
 
 -- the length of the identifier was read
-pub head_none : (old now : ViewState) (start bytes : ℕ) (p q : Position) (n : ℕ) (id : List ℕ) → Viewed old now
-    → now.base.faults ≡ old.base.faults → IsPosition q → p.read ≡ 0
+pub head_none : {old now : ViewState} {start bytes : ℕ} {q : Position} {n : ℕ} {id : List ℕ} (p : Position)
+    → Viewed old now → now.base.faults ≡ old.base.faults → IsPosition q → p.read ≡ 0
     → now.base.reads + p.read ≤ old.base.reads + q.read → HasRead now start bytes q (n ∷ [])
     → length id ≡ MAX_IDENTIFIER_BYTES → HeadSoFar old now start bytes q n 0 id
-head_none old now start bytes p q n id viewed same is none reads read room = record {
+head_none p viewed same is none reads read room = record {
   viewed = viewed;
   faults = same;
   is = is;
@@ -168,11 +167,11 @@ head_none old now start bytes p q n id viewed same is none reads read room = rec
 }
 
 -- one byte more
-pub head_more : (old now new : ViewState) (start bytes : ℕ) (p q : Position) (n k byte : ℕ) (id : List ℕ)
+pub head_more : {old now new : ViewState} {start bytes : ℕ} {p q : Position} {n k : ℕ} {id : List ℕ} (byte : ℕ)
     → HeadSoFar old now start bytes p n k id → Viewed now new → IsPosition q
     → new.base.reads + p.read ≤ now.base.reads + q.read → ByteEnds now new p q (Ok byte) → k < MAX_IDENTIFIER_BYTES
     → 0x21 ≤ byte → byte ≤ 0x7E → HeadSoFar old new start bytes q n (k + 1) (set id k byte)
-head_more old now new start bytes p q n k byte id so_far viewed is reads ends less low high =
+head_more {new = new} {start} {bytes} {q = q} {n} {k} {id} byte so_far viewed is reads ends less low high =
     let inside : k < length id = omega (arith, less, so_far.room) in
     record {
       viewed = viewed_then so_far.viewed viewed;
@@ -188,11 +187,11 @@ head_more old now new start bytes p q n k byte id so_far viewed is reads ends le
     }
 
 -- the identifier was read
-pub head_whole : (old now : ViewState) (start bytes : ℕ) (p : Position) (n body_length : ℕ) (id : List ℕ)
+pub head_whole : {old now : ViewState} {start bytes : ℕ} {p : Position} {n body_length : ℕ} {id : List ℕ}
     → HeadSoFar old now start bytes p n n id → 1 ≤ n → n ≤ MAX_IDENTIFIER_BYTES → 1 + n ≤ bytes
     → body_length ≡ bytes - (1 + n) → body_length ≤ MAX_BODY_BYTES
     → IsHead now start bytes p (record { id = id; id_length = n; body_length = body_length })
-head_whole old now start bytes p n body_length id so_far some most less rest short =
+head_whole {now = now} {start} {bytes} {p} {n} {id = id} so_far some most less rest short =
     let count : length (take n id) ≡ n = length-take-le n id (omega (arith, most, so_far.room)) in
     record {
       is = so_far.is;

@@ -3,6 +3,7 @@ pub mod Entries
 pub mod HalfDone
 pub mod InOrder
 pub mod LastCells
+pub mod LastLooked
 pub mod Licensed
 pub mod Looked
 pub mod OfSettled

@@ -8,8 +8,8 @@ use Rattle.cell_types.specs.declared.refusal.Refusal.TheVariants.{DeviceFault}
 use Rattle.commit_record.specs.declared.slot.SlotState.{SlotState}
 use Rattle.commit_record.specs.declared.slot.SlotState.TheVariants.{Unused, Reserved, Abandoned, Committed, Done}
 use Rattle.recovery_engine.specs.declared.put.Put.{Put}
-use Rattle.recovery_engine.specs.Putting.{IsInFirst, LeavesPhases, CrashesLeavePhases, PutsPhases}
-use Rattle.recovery_engine.proofs.Phasing.{changes_same, changes_wider, false_true, phases_append, phases_append_ended}
+use Rattle.recovery_engine.specs.Putting.{IsInFirst, CrashesLeavePhases, PutsPhases}
+use Rattle.recovery_engine.proofs.Phasing.{changes_same, changes_wider, crashes_wider, false_true, phases_append, phases_append_ended}
 use Rattle.worm_device.specs.Calls.{Called, Syncs}
 use Rattle.worm_device.specs.Counts.{IsStill, Rose}
 use Rattle.worm_device.specs.State.{DeviceState, LeftSince}
@@ -17,19 +17,9 @@ use Rattle.worm_device.specs.declared.device.Failed.{Failed}
 use Rattle.worm_device.proofs.Counting.{still_first, still_second}
 use Rattle.worm_device.proofs.Elapsing.{called_then, elapses_of, remembers_of}
 use Rattle.worm_device.proofs.Images.{extends_self, extends_then, unchanged_then}
-use Rattle.recovery_engine.specs.Ending.{HasJournal, IsFirstEnd, IsLastEnd, end_plan, end_phases, step_of}
+use Rattle.recovery_engine.specs.Ending.{IsFirstEnd, IsLastEnd, end_plan, end_phases, step_of}
 use Rattle.recovery_engine.specs.Settling.{Settles, SettleEnds, LooksBriefly, LooksBrieflyAgain, NamesTarget, EndsByPhases, IsEnding, settle_plan}
 use Rattle.recovery_engine.specs.declared.settling.Step.TheVariants.{Nothing}
-use Rattle.tamper_rules.specs.Settling.{Settled}
-use Rattle.tamper_rules.proofs.Images.{same_image}
-use Rattle.commit_record.specs.States.{IsState}
-use Rattle.recovery_engine.proofs.HalfDone.{settled_is_whole}
-use Rattle.recovery_engine.specs.LastSlot.{IsLastSlot}
-use Rattle.cell_types.specs.Layout.{Layout}
-use Rattle.volume_meaning.specs.Slots.{IsHorizon}
-use Rattle.volume_meaning.specs.Volumes.{IsVolume}
-use Rattle.volume_meaning.proofs.Extending.{horizon_further}
-use Rattle.recovery_engine.proofs.InOrder.{state_further}
 use Rattle.recovery_engine.specs.declared.settling.Ready.{Ready}
 
 true_false : true ≡ false → ⊥
@@ -173,6 +163,13 @@ settled_looked old now result looked unfailed read step targets ends reads again
     looked.called unfailed read (λ okay tells. looked.stepped tells) looked.quiet looked.crashes
     (λ okay tells. looked.synced tells) step targets ends reads again
 
+-- so they do where they are refused
+pub refused_looked : (old now : DeviceState) (refusal : Refusal) → Looked old now
+    → (IsTrue old.tells → NamesTarget old now (Err refusal)) → SettleEnds old now (Err refusal)
+    → (IsTrue old.tells → LooksBrieflyAgain old now) → Settles old now (Err refusal)
+refused_looked old now refusal looked targets ends again = settled_looked old now (Err refusal) looked
+    (λ okay. absurd (false_true okay)) (λ okay. absurd (false_true okay)) tt targets ends tt again
+
 -- the sync failed
 pub sync_failed : (s0 s1 : DeviceState) (f : Failed) → Syncs s0 s1 (Err f) → Settles s0 s1 (Err DeviceFault)
 sync_failed s0 s1 f sync = settled_spared s0 s1 (Err DeviceFault) sync.called (λ okay. absurd (false_true okay))
@@ -224,35 +221,6 @@ in_phases image n (Committed s l b k) j put h = ⊎_elim
     (λ (a : (j ≡ 1) × IsFirstEnd image n (Committed s l b k) put). omega (arith, a.0))
     (λ (c : (j ≡ 2) × IsLastEnd n (Committed s l b k) put). omega (arith, c.0)) h
 in_phases image n (Done s l b k) j put h = absurd (⊎_elim (λ (a : (j ≡ 1) × ⊥). a.1) (λ (c : (j ≡ 2) × ⊥). c.1) h)
-
--- the slot that settling is to end
-pub ending_of : (g : Layout) (n u : ℕ) (s0 s2 s3 s5 : DeviceState) (state : SlotState) → u ≡ n + 1 → Looked s0 s2
-    → Called s2 s3 → Looked s0 s5 → Called s3 s5
-    → IsVolume s5.cells s5.image g → IsHorizon g s2.image s3.image u
-    → IsLastSlot g s3.image s5.image n state → HasJournal g state s5.image → IsEnding s0.cells s0.image s5.image n state
-ending_of g n u s0 s2 s3 s5 state next l2 c23 l5 c35 volume horizon last journal = record {
-  layout = g;
-  volume = subst (λ (k : ℕ). IsVolume k s5.image g) l5.called.cells volume;
-  horizon = subst (λ (k : ℕ). IsHorizon g s0.image s5.image k) next (horizon_further l2.called.image c35.image horizon);
-  is = state_further g s3.image s0.image s5.image s5.image n state (extends_then l2.called.image c23.image)
-      (extends_self s5.image) last.is;
-  journal = journal;
-}
-
--- which is none where the volume was settled, and nobody else wrote
-pub none_to_end : (g : Layout) (n u : ℕ) (s0 s2 s3 s4 : DeviceState) (state : SlotState) → u ≡ n + 1 → Looked s0 s2
-    → Called s2 s3 → Looked s0 s4 → Called s3 s4 → IsVolume s4.cells s4.image g → IsHorizon g s2.image s3.image u
-    → IsLastSlot g s3.image s4.image n state → Settled s0.cells s0.image → IsStill s0.foreign_writes s4.foreign_writes
-    → end_phases state ≡ 0
-none_to_end g n u s0 s2 s3 s4 state next l2 c23 l4 c34 volume horizon last settled still =
-    let same : s4.image ≡ s0.image = same_image (l4.quiet still) in
-    settled_is_whole {cells = s0.cells} {more = s4.cells} g n state settled
-    (subst (λ (i : Image). IsVolume s4.cells i g) same volume)
-    (subst (λ (i : Image). IsHorizon g s0.image i (n + 1)) same
-    (subst (λ (k : ℕ). IsHorizon g s0.image s4.image k) next (horizon_further l2.called.image c34.image horizon)))
-    (subst (λ (i : Image). IsState g s0.image i n state) same
-    (state_further g s3.image s0.image s4.image s4.image n state (extends_then l2.called.image c23.image)
-    (extends_self s4.image) last.is))
 
 -- settling ends after the slot was ended, or not
 pub settled_ended : (n : ℕ) (s0 s4 s5 : DeviceState) (state : SlotState) (ended : Result (Unit {0}) Fault)
@@ -309,16 +277,6 @@ settled_ended n s0 s4 s5 state ended result looked unfailed read phases ending o
               );
           only = λ still. changes_wider (λ put h. (h.0, omega (arith, h.1, two_phases state), h.2))
               (whole.puts.only tells still);
-          crashes = λ t since image le left. ⊎_elim inl
-              (λ (l : LeavesPhases (settle_plan s4.image n state) (1 + end_phases state) s0 s5 image).
-              inr (record {
-                phase = l.phase;
-                begun = omega (arith, l.begun, two_phases state);
-                all = l.all;
-                sure =
-                    l.sure;
-                synced = l.synced;
-                only = l.only;
-              }))
-              (whole.crashes t since image le left);
+          crashes = crashes_wider plan (1 + end_phases state) 3 (omega (arith, two_phases state)) whole.puts.called
+              whole.crashes;
         }

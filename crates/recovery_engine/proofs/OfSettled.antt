@@ -1,5 +1,5 @@
 -- Settling a settled volume, where nobody else writes, leaves it as it is.
-use Rattle.std.proofs.Common.{◌≡◌, ◌≤◌, ⊎_elim, ℕ, List, Result, Some, refl, subst, arith}
+use Rattle.std.proofs.Common.{◌≡◌, ◌≤◌, ⊎_elim, ℕ, Result, Some, refl, subst, arith}
 use Rattle.std.specs.Prelude.{IsTrue}
 use Rattle.cell_types.specs.Image.{Image}
 use Rattle.cell_types.specs.declared.refusal.Refusal.{Refusal}

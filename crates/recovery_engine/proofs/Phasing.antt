@@ -15,7 +15,7 @@ use Rattle.worm_device.proofs.Counting.{still_first, still_second}
 use Rattle.worm_device.proofs.Elapsing.{called_self, called_then, elapses_of}
 use Rattle.worm_device.proofs.Images.{extends_then}
 use Rattle.recovery_engine.specs.declared.put.Put.{Put}
-use Rattle.recovery_engine.specs.Putting.{IsPut, ChangesBy, IsPutTwice, IsTaken, PutsEnd, Puts, PhaseEnds, PutsPhase, IsInFirst, LeavesPhases, CrashesLeavePhases, PhasesEnd, PutsPhases, IsThis}
+use Rattle.recovery_engine.specs.Putting.{AreStanding, IsPut, ChangesBy, IsPutTwice, IsTaken, PutsEnd, Puts, PhaseEnds, PutsPhase, IsInFirst, LeavesPhases, CrashesLeavePhases, PhasesEnd, PutsPhases, IsThis}
 
 none_some : (a : List ℕ) → Some a ≡ None → ⊥
 none_some a e = cc
@@ -63,6 +63,27 @@ changes_then {P} {Q} {R} {a} {b} {c} left right grows p q at value h = ⊎_elim
     (λ v is. absurd (none_some v (sym (grows.keeps at v is) ∙ put.blank))))
     (q at value h)
 
+twice_wider : {P R : Put → Type 0} {put : Put} {found : List ℕ} → ((put : Put) → P put → R put)
+    → IsPutTwice P put found → IsPutTwice R put found
+twice_wider wider t = record { other = t.other; planned = wider t.other t.planned; here = t.here; is = t.is }
+
+-- a cell that was taken, among more that were to be put
+taken_wider : {P R : Put → Type 0} {old new : DeviceState} {e : Evidence} → ((put : Put) → P put → R put)
+    → (t : IsTaken P old new e) → (t' : IsTaken R old new e) × (t'.put ≡ t.put)
+taken_wider {P} wider t = (
+  record {
+    put = t.put;
+    planned = wider t.put t.planned;
+    found = t.found;
+    differs = t.differs;
+    is = t.is;
+    stands = t.stands;
+    stood = λ still. ⊎_elim inl (λ (twice : IsPutTwice P t.put t.found). inr (twice_wider wider twice))
+        (t.stood still);
+  },
+  refl,
+)
+
 -- nothing is put
 pub puts_none : (P : Put → Type 0) (s : DeviceState) → ((put : Put) → P put → ⊥) → Puts P s s (Ok tt)
 puts_none P s none = record {
@@ -97,35 +118,34 @@ module _ {P Q R : Put → Type 0} (left : (put : Put) → P put → R put) (righ
           (covers put r);
     }
 
+    -- a cell that was taken among the later ones, seen from before the first
+    taken_then : Called mid new → IsTrue old.tells → {e : Evidence} → (t : IsTaken Q mid new e)
+        → (t' : IsTaken R old new e) × (t'.put ≡ t.put)
+    taken_then called tells t = (
+      record {
+        put = t.put;
+        planned = right t.put t.planned;
+        found = t.found;
+        differs = t.differs;
+        is = t.is;
+        stands = t.stands;
+        stood = λ still.
+            let e1 = still_first first.called.foreign_writes called.foreign_writes still in
+            let e2 = still_second first.called.foreign_writes called.foreign_writes still in
+            ⊎_elim
+            (λ (stood : mid.image t.put.at ≡ Some t.found). ⊎_elim inl
+            (λ (p : IsPut P old.image t.put.at t.found). inr
+            (record { other = p.put; planned = left p.put p.planned; here = p.here; is = p.is }))
+            (first.only tells e1 t.put.at t.found stood))
+            (λ (twice : IsPutTwice Q t.put t.found). inr (twice_wider right twice))
+            (t.stood e2);
+      },
+      refl,
+    )
+
     ended : (fault : Fault) → Called mid new → PutsEnd Q mid new (Err fault) → PutsEnd R old new (Err fault)
     ended faults.Failed called ends = omega (arith, ends, first.called.faults)
-    ended (Tampered e) called ends = λ tells.
-        let taken = ends (tells_mid tells) in
-        record {
-          put = taken.put;
-          planned = right taken.put taken.planned;
-          found = taken.found;
-          differs = taken.differs;
-          is = taken.is;
-          stands = taken.stands;
-          stood = λ still.
-              let e1 = still_first first.called.foreign_writes called.foreign_writes still in
-              let e2 = still_second first.called.foreign_writes called.foreign_writes still in
-              ⊎_elim
-              (λ (stood : mid.image taken.put.at ≡ Some taken.found). ⊎_elim inl
-              (λ (p : IsPut P old.image taken.put.at taken.found). inr
-              (record { other = p.put; planned = left p.put p.planned; here = p.here; is = p.is }))
-              (first.only tells e1 taken.put.at taken.found stood))
-              (λ (twice : IsPutTwice Q taken.put taken.found). inr
-              (record {
-                other = twice.other;
-                planned = right twice.other twice.planned;
-                here = twice.here;
-                is =
-                    twice.is;
-              }))
-              (taken.stood e2);
-        }
+    ended (Tampered e) called ends = λ tells. (taken_then called tells (ends (tells_mid tells))).0
 
     -- and the last of them not
     pub puts_ended : (fault : Fault) → Puts Q mid new (Err fault) → Puts R old new (Err fault)
@@ -149,19 +169,7 @@ puts_same {P} {R} {old} {new} {result} to back puts = record {
     same : (r : Result (Unit {0}) Fault) → PutsEnd P old new r → PutsEnd R old new r
     same (Ok u) ends = λ tells put r. ends tells put (back put r)
     same (Err faults.Failed) ends = ends
-    same (Err (Tampered e)) ends = λ tells.
-        let taken = ends tells in
-        record {
-          put = taken.put;
-          planned = to taken.put taken.planned;
-          found = taken.found;
-          differs = taken.differs;
-          is = taken.is;
-          stands = taken.stands;
-          stood = λ still. ⊎_elim inl (λ (t : IsPutTwice P taken.put taken.found). inr
-              (record { other = t.other; planned = to t.other t.planned; here = t.here; is = t.is }))
-              (taken.stood still);
-        }
+    same (Err (Tampered e)) ends = λ tells. (taken_wider to (ends tells)).0
 
 -- cells of a wider row, of which the last was not put
 pub puts_ended_wider : {P R : Put → Type 0} {old new : DeviceState} (wider : (put : Put) → P put
@@ -257,39 +265,6 @@ phase_told {P} {R} {old} {new} {result} to back phase = record {
     sure (Ok u) h = λ tells. record { put = λ put r. (h tells).put put (back tells put r); synced = (h tells).synced }
     sure (Err fault) h = tt
 
--- the same cell, seen from before other cells were put
-taken_then : {P Q R : Put → Type 0} {old mid new : DeviceState} (left : (put : Put) → P put
-    → R put) (right : (put : Put) → Q put
-    → R put) (u : Unit {0}) → Puts P old mid (Ok u) → Called mid new → IsTrue old.tells → {e : Evidence}
-    → (t : IsTaken Q mid new e) → (t' : IsTaken R old new e) × (t'.put ≡ t.put)
-taken_then {P} {Q} {R} {old} {mid} {new} left right u first called tells {e} taken = (
-  record {
-    put = taken.put;
-    planned = right taken.put taken.planned;
-    found = taken.found;
-    differs = taken.differs;
-    is = taken.is;
-    stands = taken.stands;
-    stood = λ still.
-        let e1 = still_first first.called.foreign_writes called.foreign_writes still in
-        let e2 = still_second first.called.foreign_writes called.foreign_writes still in
-        ⊎_elim
-        (λ (stood : mid.image taken.put.at ≡ Some taken.found). ⊎_elim inl
-        (λ (p : IsPut P old.image taken.put.at taken.found). inr
-        (record { other = p.put; planned = left p.put p.planned; here = p.here; is = p.is }))
-        (first.only tells e1 taken.put.at taken.found stood))
-        (λ (twice : IsPutTwice Q taken.put taken.found). inr
-        (record {
-          other = twice.other;
-          planned = right twice.other twice.planned;
-          here = twice.here;
-          is = twice.is;
-        }))
-        (taken.stood e2);
-  },
-  refl,
-)
-
 below_or_at : (j k : ℕ) → j < k + 1 → (j < k) ⊎ (j ≡ k)
 below_or_at j k h = grind arith
 
@@ -314,20 +289,26 @@ module _ (plan : ℕ → Put → Type 0) where
     crashes = λ tells since image le left. inl left;
   }
 
-  module _ (k : ℕ) {old mid new : DeviceState} (u : Unit {0}) (first : PutsPhases plan k old mid (Ok u)) where
-    -- what a crash leaves of the phases so far, seen later
-    leaves_later : (next : ℕ) (image : Image) → k ≤ next → Called mid new → LeavesPhases plan k old mid image
-        → LeavesPhases plan next old new image
-    leaves_later next image more called l = record {
-      phase = l.phase;
-      begun = omega (arith, l.begun, more);
-      all = l.all;
-      sure = l.sure;
-      synced = l.synced;
-      only = λ still. l.only (still_first first.puts.called.foreign_writes called.foreign_writes still);
-    }
+  -- what a crash leaves of some phases, seen later and among more of them
+  leaves_later : {k next : ℕ} {old mid new : DeviceState} {image : Image} → k ≤ next → Called old mid → Called mid new
+      → LeavesPhases plan k old mid image → LeavesPhases plan next old new image
+  leaves_later more first then l = record {
+    phase = l.phase;
+    begun = omega (arith, l.begun, more);
+    all = l.all;
+    sure = l.sure;
+    synced = l.synced;
+    only = λ still. l.only (still_first first.foreign_writes then.foreign_writes still);
+  }
 
-    -- what it leaves of the present phase
+  pub crashes_wider : (k next : ℕ) {old new : DeviceState} → k ≤ next → Called old new
+      → CrashesLeavePhases plan k old new → CrashesLeavePhases plan next old new
+  crashes_wider k next {old} {new} more called crashes tells since image le left = ⊎_elim inl
+      (λ (l : LeavesPhases plan k old new image). inr (leaves_later more called (called_self new) l))
+      (crashes tells since image le left)
+
+  module _ (k : ℕ) {old mid new : DeviceState} (u : Unit {0}) (first : PutsPhases plan k old mid (Ok u)) where
+    -- what a crash leaves of the present phase
     leaves_now : (next : ℕ) (image : Image) → k ≤ next → Called mid new → IsTrue old.tells
         → (IsStill mid.foreign_writes new.foreign_writes → ChangesBy (plan k) mid.image new.image)
         → Between mid.sure new.image image → LeavesPhases plan next old new image
@@ -348,7 +329,7 @@ module _ (plan : ℕ → Put → Type 0) where
         → CrashesLeavePhases plan next old new
     crashes_then next more called only tells since image le left = ⊎_elim
         (λ (before : LeftSince mid since image). ⊎_elim inl
-        (λ (l : LeavesPhases plan k old mid image). inr (leaves_later next image more called l))
+        (λ (l : LeavesPhases plan k old mid image). inr (leaves_later more first.puts.called called l))
         (first.crashes tells since image le before))
         (λ (between : Between mid.sure new.image image). inr
         (leaves_now next image more called tells (only tells) between))
@@ -418,42 +399,26 @@ module _ (plan : ℕ → Put → Type 0) where
   pub phases_wider : (k next : ℕ) {old new : DeviceState} (fault : Fault) → k ≤ next
       → PutsPhases plan k old new (Err fault) → PutsPhases plan next old new (Err fault)
   phases_wider k next {old} {new} fault more p = record {
-    puts = ended_wider fault p.puts;
-    sure = taken_wider fault p;
-    crashes = λ tells since image le left. ⊎_elim inl
-        (λ (l : LeavesPhases plan k old new image). inr
-        (record {
-          phase = l.phase;
-          begun = omega (arith, l.begun, more);
-          all = l.all;
-          sure = l.sure;
-          synced = l.synced;
-          only = l.only;
-        }))
-        (p.crashes tells since image le left);
+    puts = puts_ended_wider wider fault p.puts;
+    sure = sure_wider fault p.sure;
+    crashes = crashes_wider k next more p.puts.called p.crashes;
   }
     where
       wider : (put : Put) → IsInFirst plan k put → IsInFirst plan next put
       wider put h = (h.0, omega (arith, h.1, more), h.2)
 
-      taken_wider : (f : Fault) → PutsPhases plan k old new (Err f) → PhasesEnd plan next old new (Err f)
-      taken_wider faults.Failed q = tt
-      taken_wider (Tampered e) q = λ tells.
-          let t = q.sure tells in
-          let t' = taken_then {P = IsInFirst plan 0} {Q = IsInFirst plan k} (λ put h. absurd (omega (arith, h.1))) wider
-          tt (puts_none (IsInFirst plan 0) old (λ put h. omega (arith, h.1))) q.puts.called tells t.taken in
+      sure_wider : (f : Fault) → PhasesEnd plan k old new (Err f) → PhasesEnd plan next old new (Err f)
+      sure_wider faults.Failed ends = tt
+      sure_wider (Tampered e) ends = λ tells.
+          let t = ends tells in
+          let t' = taken_wider wider t.taken in
           record {
             taken = t'.0;
             phase = t.phase;
             begun = omega (arith, t.begun, more);
-            planned = subst (plan t.phase)
-                (sym t'.1) t.planned;
+            planned = subst (plan t.phase) (sym t'.1) t.planned;
             before = t.before;
           }
-
-      ended_wider : (f : Fault) → Puts (IsInFirst plan k) old new (Err f) → Puts (IsInFirst plan next) old new (Err f)
-      ended_wider f p = puts_ended {P = IsInFirst plan 0} {Q = IsInFirst plan k} (λ put h. absurd (omega (arith, h.1)))
-          wider tt (puts_none (IsInFirst plan 0) old (λ put h. omega (arith, h.1))) f p
 
 -- phases that follow those of another row: phase j of the second is phase k + j of the whole
 module _ (plan next : ℕ → Put → Type 0) (k m : ℕ) (to : (j : ℕ) (put : Put) → next j put → plan (k + j) put)
@@ -474,21 +439,31 @@ module _ (plan next : ℕ → Put → Type 0) (k m : ℕ) (to : (j : ℕ) (put :
       (λ (later : k ≤ h.0). inr (h.0 - k, omega (arith, h.1, later), back h.0 put later h.2))
       (below_or_from h.0)
 
+  module _ {old mid : DeviceState} (u : Unit {0}) (first : PutsPhases plan k old mid (Ok u)) where
+    -- what was sure before the other row stands in an image that holds it, and so does what stood at first
+    append_all : IsTrue old.tells → (n : ℕ) {image : Image} → Extends mid.sure image
+        → AreStanding (IsInFirst next n) image → AreStanding (IsInFirst plan (k + n)) image
+    append_all tells n sure all put h = ⊎_elim
+        (λ (earlier : IsInFirst plan k put). sure.keeps put.at put.value ((first.sure tells).0 put earlier))
+        (λ (later : IsInFirst next n put). all put later)
+        (append_covers n put h)
+
+    append_synced : IsTrue old.tells → (n : ℕ) {image : Image} → Extends mid.sure image
+        → (1 ≤ n → Extends mid.image image) → 1 ≤ k + n → Extends old.image image
+    append_synced tells n sure synced some = ⊎_elim
+        (λ (one : 0 < k). extends_then ((first.sure tells).1 (omega (arith, one))) sure)
+        (λ (none : k ≤ 0). extends_then first.puts.called.image (synced (omega (arith, some, none))))
+        (below_or_from 0)
+
   module _ {old mid new : DeviceState} (u : Unit {0}) (first : PutsPhases plan k old mid (Ok u)) where
     append_leaves : (image : Image) → IsTrue old.tells → Called mid new → LeavesPhases next m mid new image
         → LeavesPhases plan (k + m) old new image
     append_leaves image tells called l = record {
       phase = k + l.phase;
       begun = omega (arith, l.begun);
-      all = λ put h. ⊎_elim
-          (λ (earlier : IsInFirst plan k put). l.sure.keeps put.at put.value ((first.sure tells).0 put earlier))
-          (λ (later : IsInFirst next l.phase put). l.all put later)
-          (append_covers l.phase put h);
+      all = append_all u first tells l.phase l.sure l.all;
       sure = extends_then first.puts.called.sure l.sure;
-      synced = λ some. ⊎_elim
-          (λ (one : 1 ≤ k). extends_then ((first.sure tells).1 one) l.sure)
-          (λ (none : k < 1). extends_then first.puts.called.image (l.synced (omega (arith, some, none))))
-          (some_or_none k);
+      synced = append_synced u first tells l.phase l.sure l.synced;
       only = λ still at value h. changes_then {P = IsInFirst plan k} {Q = IsInFirst next (l.phase + 1)}
           {R = IsInFirst plan (k + l.phase + 1)}
           (λ put p. (p.0, omega (arith, p.1), p.2)) (λ put p. (k + p.0, omega (arith, p.1), to p.0 put p.2))
@@ -496,22 +471,13 @@ module _ (plan next : ℕ → Put → Type 0) (k m : ℕ) (to : (j : ℕ) (put :
           (first.puts.only tells (still_first first.puts.called.foreign_writes called.foreign_writes still))
           (l.only (still_second first.puts.called.foreign_writes called.foreign_writes still)) at value h;
     }
-      where
-        some_or_none : (n : ℕ) → (1 ≤ n) ⊎ (n < 1)
-        some_or_none n = grind arith
 
     append_crashes : (result : Result (Unit {0}) Fault) → PutsPhases next m mid new result
         → CrashesLeavePhases plan (k + m) old new
     append_crashes result then tells since image le left = ⊎_elim
         (λ (before : LeftSince mid since image). ⊎_elim inl
-        (λ (l : LeavesPhases plan k old mid image). inr (record {
-          phase = l.phase;
-          begun = omega (arith, l.begun);
-          all = l.all;
-          sure = l.sure;
-          synced = l.synced;
-          only = λ still. l.only (still_first first.puts.called.foreign_writes then.puts.called.foreign_writes still);
-        }))
+        (λ (l : LeavesPhases plan k old mid image). inr
+        (leaves_later plan (omega arith) first.puts.called then.puts.called l))
         (first.crashes tells since image le before))
         (λ (l : LeavesPhases next m mid new image). inr (append_leaves image tells then.puts.called l))
         (then.crashes (subst IsTrue (sym first.puts.called.tells) tells) since image
@@ -522,21 +488,11 @@ module _ (plan next : ℕ → Put → Type 0) (k m : ℕ) (to : (j : ℕ) (put :
       puts = puts_more (append_left m) (append_right m) u first.puts (append_covers m) v w then.puts;
       sure = λ tells.
           let now = then.sure (subst IsTrue (sym first.puts.called.tells) tells) in (
-            λ put h. ⊎_elim
-                (λ (earlier : IsInFirst plan k put). then.puts.called.sure.keeps put.at put.value
-                ((first.sure tells).0 put earlier))
-                (λ (last : IsInFirst next m put). now.0 put last)
-                (append_covers m put h),
-            λ some. ⊎_elim
-                (λ (one : 1 ≤ k). extends_then ((first.sure tells).1 one) then.puts.called.sure)
-                (λ (none : k < 1). extends_then first.puts.called.image (now.1 (omega (arith, some, none))))
-                (some_or_none k),
+            append_all u first tells m then.puts.called.sure now.0,
+            append_synced u first tells m then.puts.called.sure now.1,
           );
       crashes = append_crashes (Ok v) then;
     }
-      where
-        some_or_none : (n : ℕ) → (1 ≤ n) ⊎ (n < 1)
-        some_or_none n = grind arith
 
     taken_appended : (fault : Fault) → PutsPhases next m mid new (Err fault)
         → PhasesEnd plan (k + m) old new (Err fault)
@@ -549,11 +505,7 @@ module _ (plan next : ℕ → Put → Type 0) (k m : ℕ) (to : (j : ℕ) (put :
           phase = k + t.phase;
           begun = omega (arith, t.begun);
           planned = subst (plan (k + t.phase)) (sym t'.1) (to t.phase t.taken.put t.planned);
-          before = λ put h. ⊎_elim
-              (λ (earlier : IsInFirst plan k put). then.puts.called.sure.keeps put.at put.value
-              ((first.sure tells).0 put earlier))
-              (λ (later : IsInFirst next t.phase put). t.before put later)
-              (append_covers t.phase put h);
+          before = append_all u first tells t.phase then.puts.called.sure t.before;
         }
 
     pub phases_append_ended : (fault : Fault) → PutsPhases next m mid new (Err fault)

@@ -1,13 +1,14 @@
 -- What a head that is no document's shows, and how the identifier is read.
-use Rattle.std.proofs.Common.{◌≡◌, ◌<◌, ◌≤◌, ◌+◌, ◌⊎◌, ◌∙◌, ℕ, [], ◌∷◌, length, take, inl, inr, refl, sym, subst, arith}
+use Rattle.std.proofs.Common.{◌≡◌, ◌<◌, ◌≤◌, ◌+◌, ◌⊎◌, ◌∙◌, ℕ, [], length, take, inl, inr, refl, sym, subst, arith}
 use Rattle.std.proofs.lemmas.List.{length-take-le}
 use Rattle.std.specs.Prelude.{IsTrue}
 use Rattle.cell_types.proofs.Passed.{handed}
 use Rattle.volume_meaning.specs.declared.limits.TheConstants.{MAX_IDENTIFIER_BYTES}
 use Rattle.document_store.proofs.Parsing.{none_first, none_long, none_byte}
 use Rattle.document_store.proofs.SoFar.{HeadSoFar, fault_first, fault_on, head_none, head_more, head_whole}
+use Rattle.document_store.proofs.head.read_head.Given.{Over}
 use Rattle.document_store.proofs.head.read_head.Goals as goal
-use Rattle.document_store.proofs.head.read_head.Goals.{then-id_length-eq0-via-then-id_length-eq0, then-id_length-eq0-via-else-id_length-eq0+then-from-gt-MAX_IDENTIFIER_BYTES, then-id_length-eq0-via-else-id_length-eq0+else-from-gt-MAX_IDENTIFIER_BYTES+then-before-bytes}
+use Rattle.document_store.proofs.head.read_head.Goals.{After-read_byte-in-loop-k, then-id_length-eq0-via-then-id_length-eq0, then-id_length-eq0-via-else-id_length-eq0+then-from-gt-MAX_IDENTIFIER_BYTES, then-id_length-eq0-via-else-id_length-eq0+else-from-gt-MAX_IDENTIFIER_BYTES+then-before-bytes}
 
 -- the first byte was not read
 pub returns-in_err-id_length-clause-ends : goal.returns-in_err-id_length-clause-ends
@@ -50,44 +51,41 @@ returns-then-body_length-clause-ends g c = (
 -- nothing of the identifier was read yet
 pub loop-k-init : goal.loop-k-init
 loop-k-init g c =
-    head_none (g.V.View.seen c.args.view.now) (g.V.View.seen c.read_byte.new.view) c.args.start c.args.bytes
-    c.args.position.now c.read_byte.new.position c.in_ok-id_length.id_length _ c.in_ok-id_length.ensures.viewed
-    c.in_ok-id_length.ensures.ends.0 c.in_ok-id_length.ensures.is c.requires.none c.in_ok-id_length.ensures.reads
+    head_none c.args.position.now c.in_ok-id_length.ensures.viewed c.in_ok-id_length.ensures.ends.0 c.in_ok-id_length.ensures.is c.requires.none c.in_ok-id_length.ensures.reads
     (c.in_ok-id_length.ensures.ends.1 c.args.start c.args.bytes [] c.requires.begins) refl
+
+-- the characters before this one were read
+read_before : (g : Over) (c : After-read_byte-in-loop-k g) → (length (take c.loop-k.k c.loop-k.id) ≡ c.loop-k.k)
+    × (c.loop-k.k < c.in_ok-id_length.id_length)
+read_before g c =
+    let less : c.loop-k.k < c.in_ok-id_length.id_length = omega (arith, c.loop-k-test.true, c.from-k-end.ensures) in
+    let most : c.in_ok-id_length.id_length ≤ MAX_IDENTIFIER_BYTES =
+    omega (arith, c.if-from-gt-MAX_IDENTIFIER_BYTES.false, c.from.ensures) in
+    (length-take-le c.loop-k.k c.loop-k.id (omega (arith, less, most, c.loop-k.invariant.room)), less)
 
 -- a character was not read
 pub returns-in_err-byte-clause-ends : goal.returns-in_err-byte-clause-ends
 returns-in_err-byte-clause-ends g c =
-    let k = c.loop-k.k in
-    let less : k < c.in_ok-id_length.id_length = omega (arith, c.loop-k-test.true, c.from-k-end.ensures) in
-    let most : c.in_ok-id_length.id_length ≤ MAX_IDENTIFIER_BYTES =
-    omega (arith, c.if-from-gt-MAX_IDENTIFIER_BYTES.false, c.from.ensures) in
-    let count : length (take k c.loop-k.id) ≡ k =
-    length-take-le k c.loop-k.id (omega (arith, less, most, c.loop-k.invariant.room)) in
+    let before = read_before g (goal.at.returns-in_err-byte-clause-ends g c).After-read_byte-in-loop-k in
     let inside : 1 + c.in_ok-id_length.id_length ≤ c.args.bytes =
     omega (arith, c.if-before-bytes.false, c.from-before.ensures) in
     rw (handed c.from_residual-in_err-byte.result c.in_err-byte.field-0.0 c.from_residual-in_err-byte.ensures.1)
-    (fault_on c.args.start c.args.bytes (g.V.View.seen c.args.view.now) (g.V.View.seen c.loop-k.view)
-    (g.V.View.seen c.read_byte-in-loop-k.new.view) c.loop-k.position c.read_byte-in-loop-k.new.position
-    (c.in_ok-id_length.id_length ∷ take k c.loop-k.id) c.in_err-byte.field-0.0 c.loop-k.invariant.viewed
-    c.loop-k.invariant.faults c.loop-k.invariant.read (omega (arith, count, less, inside)) c.in_err-byte.ensures.ends)
+    (fault_on (g.V.View.seen c.read_byte-in-loop-k.new.view) c.read_byte-in-loop-k.new.position
+    c.in_err-byte.field-0.0 c.loop-k.invariant.viewed c.loop-k.invariant.faults c.loop-k.invariant.read
+    (omega (arith, before.0, before.1, inside)) c.in_err-byte.ensures.ends)
 
 -- it is none of an identifier
 pub returns-then-not-is_ascii_graphic-clause-ends : goal.returns-then-not-is_ascii_graphic-clause-ends
 returns-then-not-is_ascii_graphic-clause-ends g c = (
   c.in_ok-byte.ensures.ends.0 ∙ c.loop-k.invariant.faults,
   λ tells.
-      let k = c.loop-k.k in
-      let less : k < c.in_ok-id_length.id_length = omega (arith, c.loop-k-test.true, c.from-k-end.ensures) in
-      let most : c.in_ok-id_length.id_length ≤ MAX_IDENTIFIER_BYTES =
-      omega (arith, c.if-from-gt-MAX_IDENTIFIER_BYTES.false, c.from.ensures) in
-      let count : length (take k c.loop-k.id) ≡ k =
-      length-take-le k c.loop-k.id (omega (arith, less, most, c.loop-k.invariant.room)) in
+      let at = (goal.at.returns-then-not-is_ascii_graphic-clause-ends g c).After-read_byte-in-loop-k in
+      let before = read_before g at in
       let told = subst IsTrue (sym c.in_ok-byte.ensures.viewed.called.tells)
       (subst IsTrue (sym c.loop-k.invariant.viewed.called.tells) tells) in
       none_byte (g.V.View.seen c.read_byte-in-loop-k.new.view) c.args.start c.args.bytes
-      c.read_byte-in-loop-k.new.position told c.in_ok-id_length.id_length c.in_ok-byte.byte (take k c.loop-k.id)
-      (c.in_ok-byte.ensures.ends.1 c.args.start c.args.bytes _ c.loop-k.invariant.read) (omega (arith, count, less))
+      c.read_byte-in-loop-k.new.position told c.in_ok-id_length.id_length c.in_ok-byte.byte (take c.loop-k.k c.loop-k.id)
+      (c.in_ok-byte.ensures.ends.1 c.args.start c.args.bytes _ c.loop-k.invariant.read) (omega (arith, before.0, before.1))
       c.if-not-is_ascii_graphic.ensures.cases,
 )
 
@@ -96,10 +94,8 @@ pub loop-k-preserved : goal.loop-k-preserved
 loop-k-preserved g c =
     let less : c.loop-k.k < MAX_IDENTIFIER_BYTES =
     omega (arith, c.loop-k-test.true, c.from-k-end.ensures, c.if-from-gt-MAX_IDENTIFIER_BYTES.false, c.from.ensures) in
-    head_more (g.V.View.seen c.args.view.now) (g.V.View.seen c.loop-k.view)
-    (g.V.View.seen c.read_byte-in-loop-k.new.view) c.args.start c.args.bytes c.loop-k.position
-    c.read_byte-in-loop-k.new.position c.in_ok-id_length.id_length c.loop-k.k c.in_ok-byte.byte c.loop-k.id
-    c.loop-k.invariant c.in_ok-byte.ensures.viewed c.in_ok-byte.ensures.is c.in_ok-byte.ensures.reads
+    head_more c.in_ok-byte.byte c.loop-k.invariant c.in_ok-byte.ensures.viewed c.in_ok-byte.ensures.is
+    c.in_ok-byte.ensures.reads
     c.in_ok-byte.ensures.ends less c.if-not-is_ascii_graphic.ensures.cases.0 c.if-not-is_ascii_graphic.ensures.cases.1
 
 -- the identifier was read
@@ -112,12 +108,8 @@ returns-clause-ends g c =
     let so_far = subst (λ (k : ℕ). HeadSoFar old now c.args.start c.args.bytes c.loop-k.position n k c.loop-k.id) at_end
     c.loop-k.invariant in (
       c.loop-k.invariant.faults,
-      head_whole old now c.args.start c.args.bytes c.loop-k.position n _ c.loop-k.id so_far
-          (omega (arith, c.if-id_length-eq0.false)) (omega (
-            arith,
-            c.if-from-gt-MAX_IDENTIFIER_BYTES.false,
-            c.from.ensures,
-          ))
+      head_whole so_far (omega (arith, c.if-id_length-eq0.false))
+          (omega (arith, c.if-from-gt-MAX_IDENTIFIER_BYTES.false, c.from.ensures))
           (omega (arith, c.if-before-bytes.false, c.from-before.ensures)) (omega (arith, c.from-before.ensures))
           (omega (arith, c.if-body_length.false)),
     )

@@ -10,9 +10,8 @@ returns-in_err-read_byte-clause-ends g c =
     let old = g.V.View.seen c.args.view.now in
     let now = g.V.View.seen c.loop.view in
     rw (handed c.from_residual.result c.in_err-read_byte.field-0.0 c.from_residual.ensures.1)
-    (fault_on c.args.start c.args.bytes old now (g.V.View.seen c.read_byte.new.view) c.loop.position
-    c.read_byte.new.position _ c.in_err-read_byte.field-0.0 c.loop.invariant.viewed c.loop.invariant.faults
-    c.loop.invariant.read
+    (fault_on (g.V.View.seen c.read_byte.new.view) c.read_byte.new.position c.in_err-read_byte.field-0.0
+    c.loop.invariant.viewed c.loop.invariant.faults c.loop.invariant.read
     (body_left old now c.args.start c.args.bytes c.args.position.now c.loop.position c.args.head.now c.loop.counter
     (head_fits c.requires.head) c.loop.invariant c.loop-test.true)
     c.in_err-read_byte.ensures.ends)
@@ -20,9 +19,7 @@ returns-in_err-read_byte-clause-ends g c =
 -- one more
 pub loop-preserved : goal.loop-preserved
 loop-preserved g c =
-    body_more (g.V.View.seen c.args.view.now) (g.V.View.seen c.loop.view) (g.V.View.seen c.read_byte.new.view)
-    c.args.start c.args.bytes c.args.position.now c.loop.position c.read_byte.new.position c.args.head.now
-    c.loop.counter c.in_ok-read_byte.field-0 c.loop.invariant c.in_ok-read_byte.ensures.viewed
+    body_more c.in_ok-read_byte.field-0 c.loop.invariant c.in_ok-read_byte.ensures.viewed
     c.in_ok-read_byte.ensures.is c.in_ok-read_byte.ensures.reads c.in_ok-read_byte.ensures.ends
 
 -- all of them

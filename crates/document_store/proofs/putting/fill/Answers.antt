@@ -1,5 +1,5 @@
 -- A piece, byte by byte.
-use Rattle.std.proofs.Common.{length, arith}
+use Rattle.std.proofs.Common.{arith}
 use Rattle.cell_types.proofs.Passed.{handed}
 use Rattle.document_store.proofs.PutSoFar.{fill_fails, fill_more, fill_whole}
 use Rattle.document_store.proofs.putting.fill.Goals as goal
@@ -8,21 +8,16 @@ use Rattle.document_store.proofs.putting.fill.Goals as goal
 pub returns-in_err-byte-clause-ends : goal.returns-in_err-byte-clause-ends
 returns-in_err-byte-clause-ends g c =
     rw (handed c.from_residual.result c.in_err-byte.field-0.0 c.from_residual.ensures.1)
-    (fill_fails (g.V.View.seen c.args.view.now) (g.V.View.seen c.loop-k.view) (g.V.View.seen c.read_byte.new.view)
-    c.args.position.now c.loop-k.position c.read_byte.new.position (length c.args.into.now) c.loop-k.k c.loop-k.into
-    c.loop-k.invariant c.in_err-byte.ensures.viewed c.in_err-byte.field-0.0 (omega (arith, c.loop-k-test.true))
-    c.in_err-byte.ensures.ends)
+    (fill_fails c.loop-k.invariant c.in_err-byte.ensures.viewed c.read_byte.new.position c.in_err-byte.field-0.0
+    (omega (arith, c.loop-k-test.true)) c.in_err-byte.ensures.ends)
 
 -- one more
 pub loop-k-preserved : goal.loop-k-preserved
 loop-k-preserved g c =
-    fill_more (g.V.View.seen c.args.view.now) (g.V.View.seen c.loop-k.view) (g.V.View.seen c.read_byte.new.view)
-    c.args.position.now c.loop-k.position c.read_byte.new.position (length c.args.into.now) c.loop-k.k c.loop-k.into
-    c.loop-k.invariant c.in_ok-byte.ensures.viewed c.in_ok-byte.byte (omega (arith, c.loop-k-test.true)) c.in_ok-byte.ensures.is
-    c.in_ok-byte.ensures.start c.in_ok-byte.ensures.bytes c.in_ok-byte.ensures.reads c.in_ok-byte.ensures.ends
+    fill_more c.loop-k.invariant c.in_ok-byte.ensures.viewed c.read_byte.new.position c.in_ok-byte.byte
+    (omega (arith, c.loop-k-test.true)) c.in_ok-byte.ensures.is c.in_ok-byte.ensures.start c.in_ok-byte.ensures.bytes
+    c.in_ok-byte.ensures.reads c.in_ok-byte.ensures.ends
 
 -- all of them
 pub returns-clause-ends : goal.returns-clause-ends
-returns-clause-ends g c =
-    fill_whole (g.V.View.seen c.args.view.now) (g.V.View.seen c.loop-k.view) c.args.position.now c.loop-k.position
-    (length c.args.into.now) c.loop-k.k c.loop-k.into c.loop-k.invariant (omega (arith, c.loop-k-test.false))
+returns-clause-ends g c = fill_whole c.loop-k.invariant (omega (arith, c.loop-k-test.false))
