@@ -1,5 +1,5 @@
 -- What a crash leaves of the slot that settling ends, once the first sync was made.
-use Rattle.std.proofs.Common.{◌≡◌, ◌+◌, ℕ, List, Option, Some, None, refl, sym, ap, ◌∙◌, ⊎_elim, arith}
+use Rattle.std.proofs.Common.{◌≡◌, ◌+◌, ℕ, List, Some, None, sym, ap, ◌∙◌, ⊎_elim, arith}
 use Rattle.std.proofs.lemmas.Option.{none-some}
 use Rattle.cell_types.specs.Image.{Image, Extends}
 use Rattle.cell_types.specs.Layout.{Layout, outcome_at, done_at, lists_at}
@@ -16,11 +16,8 @@ use Rattle.recovery_engine.specs.CrashLaws.{BecomesOf, IsLeftBySettling, Settlin
 use Rattle.recovery_engine.specs.Ending.{IsFirstEnd, IsLastEnd, abandon_put, done_put}
 use Rattle.recovery_engine.specs.Journal.{IsEntryPut}
 use Rattle.recovery_engine.specs.Settling.{settle_plan}
+use Rattle.recovery_engine.proofs.Phasing.{by_cell}
 use Rattle.recovery_engine.proofs.Rising.{entries_from}
-
-by_cell : (R : Type 0) (found : Option (List ℕ)) → (found ≡ None → R) → ((v : List ℕ) → found ≡ Some v → R) → R
-by_cell R None none some = none refl
-by_cell R (Some v) none some = some v refl
 
 abbrev Left : Layout → ℕ → SlotState → Image → Type 0
 Left g n state image = (left : SlotState) × BecomesOf state left × IsState g image image n left

@@ -1,5 +1,6 @@
 -- Journal cells, looked at one after another.
-use Rattle.std.proofs.Common.{◌≡◌, ◌<◌, ◌≤◌, ◌+◌, ◌⊎◌, ℕ, List, Some, None, refl, sym, ap, ◌∙◌, inl, inr, ⊎_elim, subst, arith}
+use Rattle.std.proofs.Common.{◌≡◌, ◌<◌, ◌≤◌, ◌+◌, ◌⊎◌, ℕ, List, Some, None, refl, sym, ap, ◌∙◌, inl, inr, ⊎_elim, subst, arith, below_more}
+use Rattle.std.proofs.lemmas.Option.{none-some, same_Some}
 use Rattle.std.specs.Prelude.{IsTrue, Ok, Err}
 use Rattle.cell_types.specs.Image.{Image, Extends, IsUnchanged}
 use Rattle.recovery_engine.specs.Entries.{target_of, IsCopy, IsFit, IsUnfit, IsFloor, AreEntries}
@@ -14,7 +15,7 @@ use Rattle.recovery_engine.specs.declared.put.Put.{Put}
 use Rattle.recovery_engine.specs.declared.put.Blame.{Blame}
 use Rattle.recovery_engine.specs.declared.put.Blame.TheVariants as blames
 use Rattle.recovery_engine.specs.Putting.{Puts, PutsPhase, IsThis}
-use Rattle.recovery_engine.proofs.Phasing.{false_true, only_looked, changes_wider, puts_more, puts_ended, puts_looked, phase_ended}
+use Rattle.recovery_engine.proofs.Phasing.{below_or_at, false_true, only_looked, changes_wider, puts_more, puts_ended, puts_looked, phase_ended}
 use Rattle.recovery_engine.specs.declared.journal.Journal.{Journal}
 use Rattle.recovery_engine.specs.Journal.{IsEntryOf, IsEntryPut, IsUnfitAt, JournalEntryEnds}
 
@@ -44,12 +45,6 @@ entries_on {old} {new} first place below n e entries k less =
       fit = h.fit;
     }
 
-value_is : (a b : List ℕ) → Some a ≡ Some b → a ≡ b
-value_is a b e = cc
-
-below_or_at : (k n : ℕ) → k < n + 1 → (k < n) ⊎ (k ≡ n)
-below_or_at k n h = grind arith
-
 -- one floor for each journal cell
 pub floor_one : (first : ℕ) (image : Image) (place k floor floor' : ℕ) → IsFloor first image place k floor
     → IsFloor first image place k floor' → floor ≡ floor'
@@ -65,7 +60,7 @@ floor_one first image place k floor floor' p q = ⊎_elim
     (λ (b : (m : ℕ) × (before : List ℕ) × (k ≡ m + 1) × (image (place + m) ≡ Some before) ×
     (floor' ≡ target_of before + 1)).
     let same : b.0 ≡ a.0 = omega (arith, a.2, b.2) in
-    let value : a.1 ≡ b.1 = value_is a.1 b.1 (sym a.3 ∙ ap (λ (m : ℕ). image (place + m)) (sym same) ∙ b.3) in
+    let value : a.1 ≡ b.1 = same_Some a.1 b.1 (sym a.3 ∙ ap (λ (m : ℕ). image (place + m)) (sym same) ∙ b.3) in
     a.4 ∙ ap (λ (v : List ℕ). target_of v + 1) value ∙ sym b.4)
     q)
     p
@@ -87,7 +82,7 @@ checked_on {old} {new} {first} {place} {below} {n} {floor} e c = record {
   floor_is = floor_on first place n floor e c.floor_is;
   lower = λ k cell less stands.
       let h = c.entries k less in
-      c.lower k cell less (h.stands ∙ ap Some (value_is h.cell cell
+      c.lower k cell less (h.stands ∙ ap Some (same_Some h.cell cell
       (sym (e.keeps (place + k) h.cell h.stands) ∙ stands)));
 }
 
@@ -96,29 +91,17 @@ pub checked_more : (first : ℕ) (image : Image) (place below n floor next : ℕ
     → CheckedTo first image place below n floor → IsFit floor below put.value → put.at ≡ target_of put.value
     → IsEntryOf image place n put → next ≡ put.at + 1 → CheckedTo first image place below (n + 1) next
 checked_more first image place below n floor next put c fit at is next_is = record {
-  entries = λ k less. ⊎_elim
-      (λ (earlier : k < n). c.entries k earlier)
-      (λ (here : k ≡ n). record {
-        cell = put.value;
-        floor = floor;
-        stands = ap (λ (m : ℕ). image (place + m)) here ∙
-            is.stands;
-        floor_is = subst (λ (m : ℕ). IsFloor first image place m floor) (sym here) c.floor_is;
-        fit = fit;
-      })
-      (below_or_at k n less);
+  entries = below_more _ n c.entries
+      (record { cell = put.value; floor = floor; stands = is.stands; floor_is = c.floor_is; fit = fit });
   floor_is = inr (n, put.value, refl, is.stands, next_is ∙ ap (λ (a : ℕ). a + 1) at);
   lower = λ k cell less stands. ⊎_elim
       (λ (earlier : k < n). omega (arith, c.lower k cell earlier stands, fit.from, at, next_is))
       (λ (here : k ≡ n).
-      let value : cell ≡ put.value = value_is cell put.value
+      let value : cell ≡ put.value = same_Some cell put.value
       (sym stands ∙ ap (λ (m : ℕ). image (place + m)) here ∙ is.stands) in
       omega (arith, ap target_of value, at, next_is))
       (below_or_at k n less);
 }
-
-none_some : (a : List ℕ) → Some a ≡ None → ⊥
-none_some a e = cc
 
 same_put : (a b : Put) → a.at ≡ b.at → a.value ≡ b.value → a.blame ≡ b.blame → a ≡ b
 same_put a b e f h = ap (λ (k : ℕ). record a { at = k }) e ∙ ap
@@ -144,9 +127,9 @@ module _ (j : Journal) (k : ℕ) (less : k < j.count) {old mid now : DeviceState
       let h = entries tells k less in
       let stands : now.image (j.place + k) ≡ Some h.cell = c0.image.keeps (j.place + k) h.cell h.stands in
       ⊎_elim
-      (λ (blank : (e ≡ j.commit) × (now.image (j.place + k) ≡ None)). none_some h.cell (sym stands ∙ blank.1))
+      (λ (blank : (e ≡ j.commit) × (now.image (j.place + k) ≡ None)). none-some h.cell (sym blank.1 ∙ stands))
       (λ (unfit : IsUnfitAt (j.place + k) floor j.below now.image e).
-      let value : e.found ≡ h.cell = value_is e.found h.cell (sym unfit.stands ∙ stands) in
+      let value : e.found ≡ h.cell = same_Some e.found h.cell (sym unfit.stands ∙ stands) in
       let one : floor ≡ h.floor = floor_one j.first old.image j.place k floor h.floor (checked tells).floor_is
       h.floor_is in
       let not : IsUnfit floor j.below h.cell = subst (IsUnfit floor j.below) value unfit.unfit in
@@ -187,7 +170,7 @@ module _ (j : Journal) (k : ℕ) (less : k < j.count) {old mid now : DeviceState
     entry_was tells =
         let h = entries tells k less in
         let now_is = is (subst IsTrue (sym puts.called.tells) tells) in
-        let value : h.cell ≡ put.value = value_is h.cell put.value
+        let value : h.cell ≡ put.value = same_Some h.cell put.value
         (sym (c0.image.keeps (j.place + k) h.cell h.stands) ∙ now_is.stands) in
         record { stands = h.stands ∙ ap Some value; at = now_is.at; blame = now_is.blame }
 
@@ -201,7 +184,7 @@ module _ (j : Journal) (k : ℕ) (less : k < j.count) {old mid now : DeviceState
         (λ (earlier : h.0 < k). inl (h.0, earlier, h.2))
         (λ (here : h.0 ≡ k).
         let w = entry_was tells in
-        let value : other.value ≡ put.value = value_is other.value put.value
+        let value : other.value ≡ put.value = same_Some other.value put.value
         (sym h.2.stands ∙ ap (λ (m : ℕ). old.image (j.place + m)) here ∙ w.stands) in
         inr (same_put other put (h.2.at ∙ ap target_of value ∙ sym w.at) value
         (h.2.blame ∙ ap (λ (m : ℕ). blames.Journal (j.place + m)) here ∙ sym w.blame)))

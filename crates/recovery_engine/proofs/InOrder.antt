@@ -1,5 +1,6 @@
 -- The last slot and the one before it, seen one after the other.
 use Rattle.std.proofs.Common.{inr, ◌≡◌, ◌≢◌, ◌<◌, ◌+◌, ℕ, Some, None, Ok, Err, sym, ap, ◌∙◌, inl, ⊎_elim, subst, arith}
+use Rattle.std.proofs.lemmas.Option.{none-some, same_Some}
 use Rattle.std.specs.Prelude.{IsTrue}
 use Rattle.cell_types.specs.Image.{Image, Extends, IsUnchanged}
 use Rattle.cell_types.specs.Layout.{Layout, pool_at}
@@ -35,9 +36,6 @@ state_further g before before' after after' n (Done s l b j) e f is = done_on f 
 -- an image in which nothing has changed is extended by the first
 unchanged_back : (old new : Image) → IsUnchanged old new → Extends new old
 unchanged_back old new same = record { keeps = λ cell value h. sym (same cell) ∙ h }
-
-cells_are : (a b : Reservation) → Some a ≡ Some b → a ≡ b
-cells_are a b e = cc
 
 -- evidence that names the slot's reserve cell, where its cells are out of order
 out_of_order : (g : Layout) (n total from to : ℕ) (image : Image) (cells : Reservation) (e : Evidence) → n < g.slots
@@ -137,7 +135,7 @@ module _ (g : Layout) (n m : ℕ) (next : n ≡ m + 1) (less : n < g.slots) (v0 
             is = state_further g v0.image v0.image v1.image v2.image n state (extends_self v0.image) two.image
                 (s.2 tells);
             follows = λ cells' e.
-                let here : cells ≡ cells' = cells_are cells cells' (sym reserved ∙ e) in
+                let here : cells ≡ cells' = same_Some cells cells' (sym reserved ∙ e) in
                 record {
                   begins = subst (λ (k : ℕ). EndsBelow g v2.image k cells'.start) (sym next)
                       (subst (λ (c : Reservation). EndsBelow g v2.image (m + 1) c.start) here ended.1);
@@ -169,7 +167,7 @@ first_there g n v0 v1 state cells first reserved there s = (
   λ tells. record {
     is = s.2 tells;
     follows = λ cells' e.
-        let here : cells ≡ cells' = cells_are cells cells' (sym reserved ∙ e) in
+        let here : cells ≡ cells' = same_Some cells cells' (sym reserved ∙ e) in
         record {
           begins = inl (first, ap (λ (c : Reservation). c.start) (sym here) ∙ there);
           ended = λ m is. absurd (omega (arith, first, is));
@@ -177,11 +175,8 @@ first_there g n v0 v1 state cells first reserved there s = (
   },
 )
 
-none_some : (a : Reservation) → None ≡ Some a → ⊥
-none_some a e = cc
-
 -- the slot reserves nothing
 pub no_cells : (g : Layout) (n : ℕ) (v0 v1 : ViewState) (state : SlotState) → reservation_of state ≡ None
     → StateEnds g n v0 v1 (Ok state) → LastEnds g n v0 v1 (Ok state)
 no_cells g n v0 v1 state none s =
-    (s.0, λ tells. record { is = s.2 tells; follows = λ cells e. absurd (none_some cells (sym none ∙ e)) })
+    (s.0, λ tells. record { is = s.2 tells; follows = λ cells e. absurd (none-some cells (sym none ∙ e)) })

@@ -1,5 +1,6 @@
 -- Evidence that settling names in a journal, and in the cells that end a slot.
 use Rattle.std.proofs.Common.{◌≡◌, ◌≢◌, ◌≤◌, ◌<◌, ◌+◌, ◌^◌, ◌⊎◌, ℕ, List, Some, None, Ok, Err, refl, sym, ap, ◌∙◌, inl, inr, ⊎_elim, subst, arith}
+use Rattle.std.proofs.lemmas.Option.{none-some, same_Some}
 use Rattle.std.specs.Prelude.{IsTrue, Result}
 use Rattle.cell_types.specs.Image.{Image, Extends, IsUnchanged}
 use Rattle.cell_types.specs.Layout.{Layout, reserve_at, outcome_at, done_at, lists_at}
@@ -43,12 +44,6 @@ use Rattle.recovery_engine.specs.Settling.{HasOtherTarget, IsFoundBroken, IsSett
 use Rattle.recovery_engine.proofs.Rising.{entries_apart, entries_from}
 use Rattle.recovery_engine.proofs.InOrder.{state_further}
 
-none_some : (a : List ℕ) → Some a ≡ None → ⊥
-none_some a e = cc
-
-value_is : (a b : List ℕ) → Some a ≡ Some b → a ≡ b
-value_is a b e = cc
-
 -- a volume stays one on the device, over calls
 pub volume_later : (old new : DeviceState) (g : Layout) → Called old new → IsVolume old.cells old.image g
     → IsVolume new.cells new.image g
@@ -91,7 +86,7 @@ module _ (g : Layout) (n s l b j : ℕ) where
       → IsFloor (lists_at g) image (journal_at s l j) k floor → IsInOrder g image n s l b j k
       → IsUnfit floor (document_at s l b j) cell → ⊥
   in_order_fits image k floor cell stands floor_is o unfit =
-      let value : o.copies.entry ≡ cell = value_is o.copies.entry cell (sym o.copies.stands ∙ stands) in
+      let value : o.copies.entry ≡ cell = same_Some o.copies.entry cell (sym o.copies.stands ∙ stands) in
       let is : IsRecordCell o.copied o.target cell = subst (IsRecordCell o.copied o.target) value o.copies.is in
       let here : target_of cell ≡ o.target = address_in o.copied o.target cell o.copies.address is in
       ⊎_elim
@@ -109,7 +104,7 @@ module _ (g : Layout) (n s l b j : ℕ) where
       (λ (r : (before : ℕ) × (lower : ℕ) × (other : RecordCell) × (k ≡ before + 1)
       × CopiesIndexCell image s l j before lower other × (lower < o.target)).
       let same : r.0 ≡ c.0 = omega (arith, r.3, c.2) in
-      let entry : r.4.entry ≡ c.1 = value_is r.4.entry c.1
+      let entry : r.4.entry ≡ c.1 = same_Some r.4.entry c.1
       (sym r.4.stands ∙ ap (λ (m : ℕ). image (journal_at s l j + m)) same ∙ c.3) in
       let there : target_of c.1 ≡ r.1 = address_in r.2 r.1 c.1 r.4.address
       (subst (IsRecordCell r.2 r.1) entry r.4.is) in
@@ -142,7 +137,7 @@ module _ (g : Layout) (n s l b j : ℕ) where
           not_met = λ met.
               let w = met.commit n s l b j flaw.k (record { commits = commits; done = inl (open_slot still) })
               flaw.within refl in
-              none_some w.found (sym w.stands ∙ blank.1);
+              none-some w.found (sym blank.1 ∙ w.stands);
         };
       }))
       (λ (unfit : IsUnfitAt (journal_at s l j + flaw.k) flaw.floor (document_at s l b j) s5.image e).
@@ -196,13 +191,13 @@ module _ (g : Layout) (n s l b j : ℕ) where
     written = record { found = value; stands = stands };
     not_met = λ met. ⊎_elim
         (λ (none : image (done_at n) ≡ None). ⊎_elim
-        (λ (blank : image (target_of value) ≡ None). none_some found (sym other ∙ blank))
+        (λ (blank : image (target_of value) ≡ None). none-some found (sym blank ∙ other))
         (λ (same : image (target_of value) ≡ image (journal_at s l j + k)).
-        differs (value_is found value (sym other ∙ same ∙ stands)))
+        differs (same_Some found value (sym other ∙ same ∙ stands)))
         (met.committed n s l b j k (target_of value) copy.held (record { commits = stores.commits; done = none })
         copies refl))
         (λ (holds : Holds image (done_at n) (records.Done n)).
-        differs (value_is found value (sym other
+        differs (same_Some found value (sym other
         ∙ met.done n s l b j k (target_of value) copy.held (record { commits = stores.commits; done = holds }) copies
         refl
         ∙ stands)))
@@ -298,7 +293,7 @@ module _ (g : Layout) (n : ℕ) (s0 s3 s4 s5 : DeviceState) (c03 : Called s0 s3)
         let value : taken.put.value ≡ v = ap (λ (p : Put). p.value) is in
         let never : IsStill s0.foreign_writes s5.foreign_writes → ⊥ = λ still. ⊎_elim
         (λ (stood : s4.image taken.put.at ≡ Some taken.found).
-        none_some taken.found (sym stood ∙ ap s4.image here ∙ quiet_34 (still_34 still) a ∙ none))
+        none-some taken.found (sym (ap s4.image here ∙ quiet_34 (still_34 still) a ∙ none) ∙ stood))
         (λ (twice : IsPutTwice P taken.put taken.found).
         taken.differs (sym twice.is ∙ once twice.other twice.planned (twice.here ∙ here) ∙ sym value))
         (taken.stood (still_45 still)) in
@@ -344,7 +339,7 @@ module _ (g : Layout) (n : ℕ) (s0 s3 s4 s5 : DeviceState) (c03 : Called s0 s3)
         done = ⊎_elim inl
             (λ (w : (v : List ℕ) × (s5.image (done_at n) ≡ Some v)). inr (⊎_elim
             (λ (stood : s4.image (done_at n) ≡ Some w.0).
-            absurd (none_some w.0 (sym stood ∙ quiet_34 (still_34 still) (done_at n) ∙ none)))
+            absurd (none-some w.0 (sym (quiet_34 (still_34 still) (done_at n) ∙ none) ∙ stood)))
             (λ (p : IsPut (IsInFirst (end_plan s4.image n (Committed s l b j)) 2) s4.image (done_at n) w.0). record {
               cell = w.0;
               stands = w.1;
@@ -402,7 +397,7 @@ module _ (g : Layout) (n : ℕ) (s0 s3 s4 s5 : DeviceState) (c03 : Called s0 s3)
           let k = is.0 in
           let put = taken.put in
           let h = entries k is.1 in
-          let value : h.cell ≡ put.value = value_is h.cell put.value (sym h.stands ∙ is.2.stands) in
+          let value : h.cell ≡ put.value = same_Some h.cell put.value (sym h.stands ∙ is.2.stands) in
           let copy : IsCopy put.value = subst IsCopy value h.fit.copy in
           let small : target_of put.value < 2 ^ 32 =
           omega (arith, h.fit.to, ap target_of value, commits.reserves.to, volume.volume.is.well_formed.0.cells) in
@@ -535,7 +530,7 @@ pub stays_free : (g : Layout) (n m : ℕ) (state : SlotState) (s4 s5 : DeviceSta
 stays_free g n m state s4 s5 u less entries phases tells still none = ⊎_elim
     (λ (blank : s5.image (reserve_at m) ≡ None). blank)
     (λ (w : (v : List ℕ) × (s5.image (reserve_at m) ≡ Some v)). absurd (⊎_elim
-    (λ (stood : s4.image (reserve_at m) ≡ Some w.0). none_some w.0 (sym stood ∙ none))
+    (λ (stood : s4.image (reserve_at m) ≡ Some w.0). none-some w.0 (sym none ∙ stood))
     (λ (q : IsPut (IsInFirst (end_plan s4.image n state) (end_phases state)) s4.image (reserve_at m) w.0).
     not_reserve g s4.image n m state less entries q.put q.planned q.here)
     (phases.puts.only tells still (reserve_at m) w.0 w.1)))

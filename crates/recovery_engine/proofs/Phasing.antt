@@ -1,5 +1,6 @@
 -- Cells that are put one after another, and phases that follow one another.
 use Rattle.std.proofs.Common.{true, false, ◌≡◌, ◌≤◌, ◌<◌, ◌+◌, ◌-◌, ◌⊎◌, ℕ, List, Option, Some, None, Result, Ok, Err, refl, sym, ◌∙◌, inl, inr, ⊎_elim, subst, arith}
+use Rattle.std.proofs.lemmas.Option.{none-some, same_Some}
 use Rattle.std.specs.Prelude.{IsTrue}
 use Rattle.cell_types.specs.Image.{Image, Extends, Between, IsUnchanged, ChangesOnly}
 use Rattle.cell_types.specs.declared.refusal.Evidence.{Evidence}
@@ -17,17 +18,11 @@ use Rattle.worm_device.proofs.Images.{extends_then}
 use Rattle.recovery_engine.specs.declared.put.Put.{Put}
 use Rattle.recovery_engine.specs.Putting.{AreStanding, IsPut, ChangesBy, IsPutTwice, IsTaken, PutsEnd, Puts, PhaseEnds, PutsPhase, IsInFirst, LeavesPhases, CrashesLeavePhases, PhasesEnd, PutsPhases, IsThis}
 
-none_some : (a : List ℕ) → Some a ≡ None → ⊥
-none_some a e = cc
-
 pub false_true : false ≡ true → ⊥
 false_true e = cc
 
-some_is : (a b : List ℕ) → Some a ≡ Some b → a ≡ b
-some_is a b e = cc
-
 -- a blank cell, or what stands in it
-by_cell : (R : Type 0) (found : Option (List ℕ)) → (found ≡ None → R) → ((v : List ℕ) → found ≡ Some v → R) → R
+pub by_cell : (R : Type 0) (found : Option (List ℕ)) → (found ≡ None → R) → ((v : List ℕ) → found ≡ Some v → R) → R
 by_cell R None none some = none refl
 by_cell R (Some v) none some = some v refl
 
@@ -60,9 +55,10 @@ changes_then {P} {Q} {R} {a} {b} {c} left right grows p q at value h = ⊎_elim
       is =
           put.is;
     }))
-    (λ v is. absurd (none_some v (sym (grows.keeps at v is) ∙ put.blank))))
+    (λ v is. absurd (none-some v (sym put.blank ∙ grows.keeps at v is))))
     (q at value h)
 
+-- a value that was put twice, among more that were to be put
 twice_wider : {P R : Put → Type 0} {put : Put} {found : List ℕ} → ((put : Put) → P put → R put)
     → IsPutTwice P put found → IsPutTwice R put found
 twice_wider wider t = record { other = t.other; planned = wider t.other t.planned; here = t.here; is = t.is }
@@ -143,6 +139,7 @@ module _ {P Q R : Put → Type 0} (left : (put : Put) → P put → R put) (righ
       refl,
     )
 
+    -- so the later ones end for all together as they end by themselves
     ended : (fault : Fault) → Called mid new → PutsEnd Q mid new (Err fault) → PutsEnd R old new (Err fault)
     ended faults.Failed called ends = omega (arith, ends, first.called.faults)
     ended (Tampered e) called ends = λ tells. (taken_then called tells (ends (tells_mid tells))).0
@@ -265,7 +262,7 @@ phase_told {P} {R} {old} {new} {result} to back phase = record {
     sure (Ok u) h = λ tells. record { put = λ put r. (h tells).put put (back tells put r); synced = (h tells).synced }
     sure (Err fault) h = tt
 
-below_or_at : (j k : ℕ) → j < k + 1 → (j < k) ⊎ (j ≡ k)
+pub below_or_at : (j k : ℕ) → j < k + 1 → (j < k) ⊎ (j ≡ k)
 below_or_at j k h = grind arith
 
 module _ (plan : ℕ → Put → Type 0) where
@@ -301,6 +298,7 @@ module _ (plan : ℕ → Put → Type 0) where
     only = λ still. l.only (still_first first.foreign_writes then.foreign_writes still);
   }
 
+  -- so a crash leaves among more phases what it leaves among some
   pub crashes_wider : (k next : ℕ) {old new : DeviceState} → k ≤ next → Called old new
       → CrashesLeavePhases plan k old new → CrashesLeavePhases plan next old new
   crashes_wider k next {old} {new} more called crashes tells since image le left = ⊎_elim inl
@@ -440,7 +438,7 @@ module _ (plan next : ℕ → Put → Type 0) (k m : ℕ) (to : (j : ℕ) (put :
       (below_or_from h.0)
 
   module _ {old mid : DeviceState} (u : Unit {0}) (first : PutsPhases plan k old mid (Ok u)) where
-    -- what was sure before the other row stands in an image that holds it, and so does what stood at first
+    -- what was to be put in either row stands in an image that holds what was sure between them
     append_all : IsTrue old.tells → (n : ℕ) {image : Image} → Extends mid.sure image
         → AreStanding (IsInFirst next n) image → AreStanding (IsInFirst plan (k + n)) image
     append_all tells n sure all put h = ⊎_elim
@@ -448,6 +446,7 @@ module _ (plan next : ℕ → Put → Type 0) (k m : ℕ) (to : (j : ℕ) (put :
         (λ (later : IsInFirst next n put). all put later)
         (append_covers n put h)
 
+    -- and so does what stood at first, once a sync was made
     append_synced : IsTrue old.tells → (n : ℕ) {image : Image} → Extends mid.sure image
         → (1 ≤ n → Extends mid.image image) → 1 ≤ k + n → Extends old.image image
     append_synced tells n sure synced some = ⊎_elim
@@ -537,6 +536,6 @@ written_done put old new written writes stands = record {
           put = put;
           planned = refl;
           here = sym p.0;
-          is = some_is put.value value (sym p.2 ∙ h);
+          is = same_Some put.value value (sym p.2 ∙ h);
         }))
         (only at)

@@ -3,9 +3,7 @@ use Rattle.std.proofs.Common.{◌≡◌, ◌≤◌, ◌<◌, ◌+◌, ◌⊎◌,
 use Rattle.cell_types.specs.Image.{Image}
 use Rattle.volume_meaning.proofs.Holding.{some_is}
 use Rattle.recovery_engine.specs.Entries.{AreEntries, target_of}
-
-below_or_at : (k n : ℕ) → k < n + 1 → (k < n) ⊎ (k ≡ n)
-below_or_at k n h = grind arith
+use Rattle.recovery_engine.proofs.Phasing.{below_or_at}
 
 one_of_three : (k n : ℕ) → (k < n) ⊎ (n < k) ⊎ (k ≡ n)
 one_of_three k n = grind arith

@@ -1,5 +1,6 @@
 -- What a row of neighbouring cells that one call wrote has put.
-use Rattle.std.proofs.Common.{◌≡◌, ◌+◌, ℕ, List, Some, Ok, Err, refl, sym, ap, ◌∙◌, inl, inr, ⊎_elim}
+use Rattle.std.proofs.Common.{◌≡◌, ◌+◌, ℕ, List, Ok, Err, refl, sym, ap, ◌∙◌, inl, inr, ⊎_elim}
+use Rattle.std.proofs.lemmas.Option.{same_Some}
 use Rattle.cell_types.specs.Image.{Image}
 use Rattle.cell_types.specs.declared.refusal.Fault.TheVariants.{Tampered}
 use Rattle.cell_types.specs.declared.refusal.Fault.TheVariants as faults
@@ -11,9 +12,6 @@ use Rattle.recovery_engine.specs.declared.put.Blame.TheVariants.{Rule}
 use Rattle.recovery_engine.specs.declared.put.Put.{Put}
 use Rattle.recovery_engine.specs.Putting.{ChangesBy, IsInRow, Puts}
 use Rattle.recovery_engine.proofs.Phasing.{false_true}
-
-some_is : (a b : List ℕ) → Some a ≡ Some b → a ≡ b
-some_is a b e = cc
 
 module _ (from : ℕ) (cells : List (List ℕ)) (rule : ℕ) where
   abbrev put_at : ℕ → List ℕ → Put
@@ -27,7 +25,7 @@ module _ (from : ℕ) (cells : List (List ℕ)) (rule : ℕ) where
         put = put_at put.place put.value;
         planned = record { place = put.place; at = refl; value = put.is; blame = refl };
         here = sym put.here;
-        is = some_is put.value value (sym put.now ∙ h);
+        is = same_Some put.value value (sym put.now ∙ h);
       }))
       (changes at)
 

@@ -1,5 +1,6 @@
 -- A volume that is settled: from the looks over the slot's last cell to the end.
-use Rattle.std.proofs.Common.{◌≡◌, ◌≤◌, ◌<◌, ◌+◌, ◌⊎◌, ℕ, Some, None, Ok, Err, refl, sym, ◌∙◌, inl, inr, ⊎_elim, subst, arith}
+use Rattle.std.proofs.Common.{◌≡◌, ◌≤◌, ◌<◌, ◌+◌, ◌⊎◌, ℕ, Some, Ok, Err, refl, sym, ◌∙◌, inl, inr, ⊎_elim, subst, arith}
+use Rattle.std.proofs.lemmas.Option.{none-some}
 use Rattle.std.specs.Prelude.{IsTrue}
 use Rattle.cell_types.specs.Image.{Extends, IsUnchanged}
 use Rattle.cell_types.specs.Layout.{Layout, IsLayout, reserve_at, outcome_at, done_at}
@@ -43,9 +44,6 @@ use Rattle.recovery_engine.proofs.Licensed.{stays_free, found_looked}
 use Rattle.recovery_engine.proofs.Looked.{Looked}
 use Rattle.recovery_engine.proofs.States.{reserved_by}
 
-none_cells : (a : Reservation) → None ≡ Some a → ⊥
-none_cells a e = cc
-
 -- evidence of the last look, from the first state on
 named_licensed : (g : Layout) (s0 s3 s4 : DeviceState) (e : Evidence) → Called s0 s3 → Called s3 s4
     → IsVolume s4.cells s4.image g
@@ -71,7 +69,7 @@ module _ (g : Layout) (n u : ℕ) (cells : Reservation) (next : u ≡ n + 1) (le
   pub step_makes : (state : SlotState) (u0 : Unit {0}) → IsLastSlot g s3.image s4.image n state
       → HasJournal g state s4.image → reservation_of state ≡ Some cells
       → PutsPhases (end_plan s4.image n state) (end_phases state) s4 s5 (Ok u0) → StepMakes g s0 s5 u (step_of n state)
-  step_makes Unused u0 last entries reserved p = absurd (none_cells cells reserved)
+  step_makes Unused u0 last entries reserved p = absurd (none-some cells reserved)
   step_makes (Abandoned s l) u0 last entries reserved p =
       λ m is. subst (HasEnded g s0.image s5.image) (same_slot m is)
       (inl (record { start = s; length = l; abandoned = abandoned_further e03 c45.image last.is }))

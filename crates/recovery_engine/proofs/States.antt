@@ -1,5 +1,6 @@
 -- What the states of slots say of reservations and of their order.
 use Rattle.std.proofs.Common.{◌≡◌, ◌<◌, ◌+◌, ◌^◌, ℕ, Some, None, refl, sym, ◌∙◌, inl, inr, ⊎_elim, subst, arith}
+use Rattle.std.proofs.lemmas.Option.{none-some, same_Some}
 use Rattle.std.specs.Prelude.{IfSome}
 use Rattle.cell_types.specs.Image.{Image}
 use Rattle.cell_types.specs.Layout.{Layout, reserve_at, outcome_at, done_at, pool_at}
@@ -16,27 +17,21 @@ use Rattle.volume_meaning.proofs.Holding.{one_record_holds}
 use Rattle.volume_meaning.proofs.OneDocument as one
 use Rattle.recovery_engine.specs.LastSlot.{IsFollowed}
 
-cells_are : (a b : Reservation) → Some a ≡ Some b → a ≡ b
-cells_are a b e = cc
-
-none_some : (a : Reservation) → None ≡ Some a → ⊥
-none_some a e = cc
-
 -- the cells that a state names lie in the pool
 pub of_pool : (g : Layout) (state : SlotState) (cells : Reservation) → StateLiesInPool g state
     → reservation_of state ≡ Some cells → AreOfPool g cells.start cells.length
-of_pool g Unused cells within e = absurd (none_some cells e)
+of_pool g Unused cells within e = absurd (none-some cells e)
 of_pool g (Reserved s l) cells within e =
-    subst (λ (c : Reservation). AreOfPool g c.start c.length) (cells_are (record { start = s; length = l }) cells e)
+    subst (λ (c : Reservation). AreOfPool g c.start c.length) (same_Some (record { start = s; length = l }) cells e)
     within
 of_pool g (Abandoned s l) cells within e =
-    subst (λ (c : Reservation). AreOfPool g c.start c.length) (cells_are (record { start = s; length = l }) cells e)
+    subst (λ (c : Reservation). AreOfPool g c.start c.length) (same_Some (record { start = s; length = l }) cells e)
     within
 of_pool g (Committed s l b j) cells within e =
-    subst (λ (c : Reservation). AreOfPool g c.start c.length) (cells_are (record { start = s; length = l }) cells e)
+    subst (λ (c : Reservation). AreOfPool g c.start c.length) (same_Some (record { start = s; length = l }) cells e)
     within.0
 of_pool g (Done s l b j) cells within e =
-    subst (λ (c : Reservation). AreOfPool g c.start c.length) (cells_are (record { start = s; length = l }) cells e)
+    subst (λ (c : Reservation). AreOfPool g c.start c.length) (same_Some (record { start = s; length = l }) cells e)
     within.0
 
 -- so their end is a number of 32 bits
@@ -55,19 +50,19 @@ module _ (g : Layout) (before after : Image) (n : ℕ) where
   -- the cells that a state names are reserved
   pub reserved_by : (state : SlotState) (cells : Reservation) → IsState g before after n state
       → reservation_of state ≡ Some cells → Reserves g after n cells.start cells.length
-  reserved_by Unused cells is e = absurd (none_some cells e)
+  reserved_by Unused cells is e = absurd (none-some cells e)
   reserved_by (Reserved s l) cells is e =
       subst (λ (c : Reservation). Reserves g after n c.start c.length)
-      (cells_are (record { start = s; length = l }) cells e) is.reserves
+      (same_Some (record { start = s; length = l }) cells e) is.reserves
   reserved_by (Abandoned s l) cells is e =
       subst (λ (c : Reservation). Reserves g after n c.start c.length)
-      (cells_are (record { start = s; length = l }) cells e) is.abandons.reserves
+      (same_Some (record { start = s; length = l }) cells e) is.abandons.reserves
   reserved_by (Committed s l b j) cells is e =
       subst (λ (c : Reservation). Reserves g after n c.start c.length)
-      (cells_are (record { start = s; length = l }) cells e) is.commits.reserves
+      (same_Some (record { start = s; length = l }) cells e) is.commits.reserves
   reserved_by (Done s l b j) cells is e =
       subst (λ (c : Reservation). Reserves g after n c.start c.length)
-      (cells_are (record { start = s; length = l }) cells e) is.commits.reserves
+      (same_Some (record { start = s; length = l }) cells e) is.commits.reserves
 
   -- a slot that is followed has ended, and the slots up to it end where the next cells begin
   pub followed : (state : SlotState) (next : ℕ) → IsState g before after n state → IsFollowed state next

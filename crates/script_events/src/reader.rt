@@ -16,6 +16,7 @@ use std::alloc::Global;
 use volume_meaning::rule_of;
 
 /// The event that the value is.
+#[tactic(auto, using(crate::proofs::OneKind::of_no_other_kind))]
 pub(crate) fn event(
     alloc: Global,
     value: &Value,
@@ -30,148 +31,38 @@ pub(crate) fn event(
         return Ok(None);
     };
     match kind {
-        EventKind::Format => format_event(alloc, value, cells, version),
-        EventKind::Ingest => ingest_event(alloc, value, cells, version),
-        EventKind::Find => find_event(alloc, value, cells, version),
-        EventKind::Lookup => lookup_event(alloc, value, cells, version),
-        EventKind::Audit => audit_event(alloc, value, cells, version),
-        EventKind::Recover => recover_event(alloc, value, cells, version),
-        EventKind::Foreign => Ok(foreign_event(value, cells, version)),
-        EventKind::Crash => crash_event(alloc, value, cells, version),
+        EventKind::Format => Ok(format(alloc, value, cells)?.map(|(slots, lists, plan)| {
+            Event::Format {
+                slots,
+                lists,
+                version,
+                plan,
+            }
+        })),
+        EventKind::Ingest => Ok(ingest(alloc, value, cells)?.map(|(id, stamp, body, plan)| {
+            Event::Ingest {
+                id,
+                stamp,
+                body,
+                plan,
+            }
+        })),
+        EventKind::Find => {
+            let said = find(alloc, value, cells, rule_of(version))?;
+            Ok(said.map(|(terms, plan)| Event::Find { terms, plan }))
+        }
+        EventKind::Lookup => {
+            Ok(lookup(alloc, value, cells)?.map(|(id, plan)| Event::Lookup { id, plan }))
+        }
+        EventKind::Audit => {
+            Ok(plan_alone(alloc, value, cells)?.map(|plan| Event::Audit { plan }))
+        }
+        EventKind::Recover => {
+            Ok(plan_alone(alloc, value, cells)?.map(|plan| Event::Recover { plan }))
+        }
+        EventKind::Foreign => {
+            Ok(foreign(value, cells).map(|(at, cell)| Event::Foreign { at, cell }))
+        }
+        EventKind::Crash => Ok(crash(alloc, value)?.map(|keep| Event::Crash { keep })),
     }
-}
-
-/// The `format` that the value is.
-fn format_event(
-    alloc: Global,
-    value: &Value,
-    cells: u32,
-    version: u8,
-) -> Result<Option<Event>, NoMemory>
-    requires { get (codes "do") (view value.now) ≡ Some (string (codes "format")) }
-    ensures { IfOk result (Exactly (λ event. SaysEvent cells version event (view value.now))) }
-{
-    let Some((slots, lists, plan)) = format(alloc, value, cells)? else {
-        return Ok(None);
-    };
-    Ok(Some(Event::Format {
-        slots,
-        lists,
-        version,
-        plan,
-    }))
-}
-
-/// The `ingest` that the value is.
-fn ingest_event(
-    alloc: Global,
-    value: &Value,
-    cells: u32,
-    version: u8,
-) -> Result<Option<Event>, NoMemory>
-    requires { get (codes "do") (view value.now) ≡ Some (string (codes "ingest")) }
-    ensures { IfOk result (Exactly (λ event. SaysEvent cells version event (view value.now))) }
-{
-    let Some((id, stamp, body, plan)) = ingest(alloc, value, cells)? else {
-        return Ok(None);
-    };
-    Ok(Some(Event::Ingest {
-        id,
-        stamp,
-        body,
-        plan,
-    }))
-}
-
-/// The `find` that the value is.
-fn find_event(
-    alloc: Global,
-    value: &Value,
-    cells: u32,
-    version: u8,
-) -> Result<Option<Event>, NoMemory>
-    requires from { FIRST_VERSION ≤ version }
-    requires to { version ≤ NEWEST_VERSION }
-    requires said { get (codes "do") (view value.now) ≡ Some (string (codes "find")) }
-    ensures { IfOk result (Exactly (λ event. SaysEvent cells version event (view value.now))) }
-{
-    let Some((terms, plan)) = find(alloc, value, cells, rule_of(version))? else {
-        return Ok(None);
-    };
-    Ok(Some(Event::Find { terms, plan }))
-}
-
-/// The `lookup` that the value is.
-fn lookup_event(
-    alloc: Global,
-    value: &Value,
-    cells: u32,
-    version: u8,
-) -> Result<Option<Event>, NoMemory>
-    requires { get (codes "do") (view value.now) ≡ Some (string (codes "lookup")) }
-    ensures { IfOk result (Exactly (λ event. SaysEvent cells version event (view value.now))) }
-{
-    let Some((id, plan)) = lookup(alloc, value, cells)? else {
-        return Ok(None);
-    };
-    Ok(Some(Event::Lookup { id, plan }))
-}
-
-/// The `audit` that the value is.
-fn audit_event(
-    alloc: Global,
-    value: &Value,
-    cells: u32,
-    version: u8,
-) -> Result<Option<Event>, NoMemory>
-    requires { get (codes "do") (view value.now) ≡ Some (string (codes "audit")) }
-    ensures { IfOk result (Exactly (λ event. SaysEvent cells version event (view value.now))) }
-{
-    let Some(plan) = plan_alone(alloc, value, cells)? else {
-        return Ok(None);
-    };
-    Ok(Some(Event::Audit { plan }))
-}
-
-/// The `recover` that the value is.
-fn recover_event(
-    alloc: Global,
-    value: &Value,
-    cells: u32,
-    version: u8,
-) -> Result<Option<Event>, NoMemory>
-    requires { get (codes "do") (view value.now) ≡ Some (string (codes "recover")) }
-    ensures { IfOk result (Exactly (λ event. SaysEvent cells version event (view value.now))) }
-{
-    let Some(plan) = plan_alone(alloc, value, cells)? else {
-        return Ok(None);
-    };
-    Ok(Some(Event::Recover { plan }))
-}
-
-/// The `foreign` that the value is.
-fn foreign_event(value: &Value, cells: u32, version: u8) -> Option<Event>
-    requires { get (codes "do") (view value.now) ≡ Some (string (codes "foreign")) }
-    ensures { Exactly (λ event. SaysEvent cells version event (view value.now)) result }
-{
-    let Some((at, cell)) = foreign(value, cells) else {
-        return None;
-    };
-    Some(Event::Foreign { at, cell })
-}
-
-/// The `crash` that the value is.
-fn crash_event(
-    alloc: Global,
-    value: &Value,
-    cells: u32,
-    version: u8,
-) -> Result<Option<Event>, NoMemory>
-    requires { get (codes "do") (view value.now) ≡ Some (string (codes "crash")) }
-    ensures { IfOk result (Exactly (λ event. SaysEvent cells version event (view value.now))) }
-{
-    let Some(keep) = crash(alloc, value)? else {
-        return Ok(None);
-    };
-    Ok(Some(Event::Crash { keep }))
 }

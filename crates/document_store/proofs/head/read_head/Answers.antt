@@ -51,7 +51,8 @@ returns-then-body_length-clause-ends g c = (
 -- nothing of the identifier was read yet
 pub loop-k-init : goal.loop-k-init
 loop-k-init g c =
-    head_none c.args.position.now c.in_ok-id_length.ensures.viewed c.in_ok-id_length.ensures.ends.0 c.in_ok-id_length.ensures.is c.requires.none c.in_ok-id_length.ensures.reads
+    head_none c.args.position.now c.in_ok-id_length.ensures.viewed c.in_ok-id_length.ensures.ends.0
+    c.in_ok-id_length.ensures.is c.requires.none c.in_ok-id_length.ensures.reads
     (c.in_ok-id_length.ensures.ends.1 c.args.start c.args.bytes [] c.requires.begins) refl
 
 -- the characters before this one were read
@@ -84,8 +85,9 @@ returns-then-not-is_ascii_graphic-clause-ends g c = (
       let told = subst IsTrue (sym c.in_ok-byte.ensures.viewed.called.tells)
       (subst IsTrue (sym c.loop-k.invariant.viewed.called.tells) tells) in
       none_byte (g.V.View.seen c.read_byte-in-loop-k.new.view) c.args.start c.args.bytes
-      c.read_byte-in-loop-k.new.position told c.in_ok-id_length.id_length c.in_ok-byte.byte (take c.loop-k.k c.loop-k.id)
-      (c.in_ok-byte.ensures.ends.1 c.args.start c.args.bytes _ c.loop-k.invariant.read) (omega (arith, before.0, before.1))
+      c.read_byte-in-loop-k.new.position told c.in_ok-id_length.id_length c.in_ok-byte.byte
+      (take c.loop-k.k c.loop-k.id) (c.in_ok-byte.ensures.ends.1 c.args.start c.args.bytes _ c.loop-k.invariant.read)
+      (omega (arith, before.0, before.1))
       c.if-not-is_ascii_graphic.ensures.cases,
 )
 
@@ -95,8 +97,8 @@ loop-k-preserved g c =
     let less : c.loop-k.k < MAX_IDENTIFIER_BYTES =
     omega (arith, c.loop-k-test.true, c.from-k-end.ensures, c.if-from-gt-MAX_IDENTIFIER_BYTES.false, c.from.ensures) in
     head_more c.in_ok-byte.byte c.loop-k.invariant c.in_ok-byte.ensures.viewed c.in_ok-byte.ensures.is
-    c.in_ok-byte.ensures.reads
-    c.in_ok-byte.ensures.ends less c.if-not-is_ascii_graphic.ensures.cases.0 c.if-not-is_ascii_graphic.ensures.cases.1
+    c.in_ok-byte.ensures.reads c.in_ok-byte.ensures.ends less c.if-not-is_ascii_graphic.ensures.cases.0
+    c.if-not-is_ascii_graphic.ensures.cases.1
 
 -- the identifier was read
 pub returns-clause-ends : goal.returns-clause-ends
