@@ -15,10 +15,10 @@ use recovery_engine::Ready;
 use worm_device::{Device, Direct, View};
 
 /// How many slots are read at once, at most.
-const ROW_SLOTS: u32 = 256;
+const ROW_SLOTS: u32 = 1_024;
 
 /// How many bytes their cells have.
-const ROW_BYTES: usize = 16_384;
+const ROW_BYTES: usize = 65_536;
 
 /// That the stamp, if one is given, is past that of each done slot below the horizon. The slots are read from the
 /// greatest down, where a stamp is given alone.
@@ -177,10 +177,7 @@ fn later_of(one: Option<u32>, other: Option<u32>) -> Option<u32>
     let Some(second) = other else {
         return one;
     };
-    if first < second {
-        return other;
-    }
-    one
+    Some(first.max(second))
 }
 
 /// That a stamp is past the last one.
