@@ -30,6 +30,14 @@ pub record AreListBlocks (g : Layout) (image : Image) (blocks : List ListBlock) 
   pub all : (l block : ℕ) → IsBlockOf g image l block → IsAmongBlocks blocks l block
   pub once : AreOnce blocks
 
+-- each of these is a block of its list
+abbrev pub AreOfLists : Layout → Image → List ListBlock → Type 0
+AreOfLists g image blocks = (i : ℕ) (b : ListBlock) → slice_get blocks i ≡ Some b → IsBlockOf g image b.list b.block
+
+-- what is asked of a cell on account of each of these
+abbrev pub AskedOf : List ListBlock → (ℕ → ℕ → ℕ → Type 0) → ℕ → Type 0
+AskedOf blocks Asks cell = (i : ℕ) (b : ListBlock) → slice_get blocks i ≡ Some b → Asks b.list b.block cell
+
 -- two lists have this block among these
 pub record IsShared (blocks : List ListBlock) (block : ℕ) : Type 0 where
   pub one : ℕ
