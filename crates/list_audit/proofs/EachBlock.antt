@@ -1,5 +1,5 @@
 -- A rule that asks the same of the cells of each block: found by going through the blocks of all lists in any order.
-use Rattle.std.proofs.Common.{◌≡◌, ◌≤◌, ◌+◌, ⊎_elim, ℕ, List, length, Option, Some, None, sym, ◌∙◌, subst, arith}
+use Rattle.std.proofs.Common.{◌≡◌, ◌≤◌, ◌<◌, ◌+◌, ⊎_elim, ℕ, List, length, Option, Some, None, sym, ◌∙◌, subst, arith}
 use Rattle.std.specs.Prelude.{slice_get}
 use Rattle.std.proofs.lemmas.Option.{slice_get_within}
 use Rattle.cell_types.specs.Image.{Image}
@@ -9,8 +9,8 @@ use Rattle.volume_meaning.specs.Nodes.{IsBlockOf}
 use Rattle.volume_meaning.specs.Volumes.{IsWritten}
 use Rattle.tamper_rules.specs.Rules.{Rule, IsMet}
 use Rattle.log_audit.specs.Findings.{FindsBroken}
-use Rattle.log_audit.specs.Least.{FindsPart, lower_finding}
-use Rattle.log_audit.proofs.Parts.{AskedBelow, as_asked, one_part, finds_all}
+use Rattle.log_audit.specs.Least.{FindsPart, LiesBehind, lower_finding}
+use Rattle.log_audit.proofs.Parts.{AskedBelow, as_asked, one_part, part_behind, finds_all}
 use Rattle.list_audit.specs.Blocks.{AreBlocksForTwo, AreListBlocks, AreOfLists, AskedOf, IsAmongBlocks, IsShared}
 use Rattle.list_audit.specs.declared.listed.ListBlock.{ListBlock}
 
@@ -59,6 +59,14 @@ module _ (g : Layout) (image : Image) (rule : Rule) (blocks : List ListBlock) (A
       (λ cell asked c at. let e : Some b ≡ Some c = sym there ∙ at in let same : b ≡ c = cc in
       subst (λ (d : ListBlock). Asks d.list d.block cell) same asked)
       (λ cell each. each b there)))
+
+  -- a block behind what was found, which asks nothing of the cells before it
+  pub block_behind : (n : ℕ) (b : ListBlock) (least : Option Evidence) → FindsPart g image rule (AskedBelow (BlockAt blocks Asks) n) least
+      → slice_get blocks n ≡ Some b → LiesBehind least b.block → ((cell : ℕ) → cell < b.block → Asks b.list b.block cell)
+      → FindsPart g image rule (AskedBelow (BlockAt blocks Asks) (n + 1)) least
+  block_behind n b least before there behind nothing = part_behind g image rule (BlockAt blocks Asks) n b.block least before behind
+      (λ cell less c at. let e : Some b ≡ Some c = sym there ∙ at in let same : b ≡ c = cc in
+      subst (λ (d : ListBlock). Asks d.list d.block cell) same (nothing cell less))
 
   -- each of these
   pub each_block : (n : ℕ) (least : Option Evidence) → FindsPart g image rule (AskedBelow (BlockAt blocks Asks) n) least → length blocks ≤ n

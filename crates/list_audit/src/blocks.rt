@@ -1,4 +1,7 @@
-//! The blocks of all lists.
+//! The blocks of all lists: each of a list once, for each list that leads to it or for two of them.
+//!
+//! Two suffice to go on from, too: what a block of two lists leads to is of both, or is passed over since it is there for
+//! two others.
 ghost use Rattle.std.specs.Prelude.{◌≡◌, ◌<◌, ◌+◌, IfOk, OnOk, Some, slice_get};
 ghost use Rattle.cell_types.specs.Image.{Image};
 ghost use Rattle.cell_types.specs.Layout.{all_lists};

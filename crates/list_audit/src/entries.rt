@@ -12,7 +12,7 @@ use crate::blocks::{BEHIND_POINTERS, FIRST_POINTER};
 use crate::held_posting::posting_at;
 use crate::listed::ListBlock;
 use cell_types::{Evidence, Geometry};
-use log_audit::{KeptCells, lower_of};
+use log_audit::{KeptCells, lies_behind, lower_of};
 use tamper_rules::BLOCK_OUT_OF_ORDER;
 use volume_meaning::BLOCK_CELLS;
 
@@ -28,6 +28,10 @@ pub fn first_broken_entry(
 {
     let mut least = None;
     for block in blocks {
+        // Blocks may meet where cells were tampered with, and they do not come by rising cells.
+        if lies_behind(&least, block.block) {
+            continue;
+        }
         least = lower_of(least, first_in_block(kept, geometry, block));
     }
     least

@@ -18,7 +18,7 @@ use crate::held_posting::posting_at;
 use crate::listed::{BLOCK_STEP, ListBlock};
 use crate::table::{OwedPostings, PostingTable};
 use cell_types::{Evidence, Geometry, NoMemory};
-use log_audit::{KeptCells, KeptVolume, lower_of};
+use log_audit::{KeptCells, KeptVolume, lies_behind, lower_of};
 use std::alloc::Global;
 use tamper_rules::FAKE_POSTING;
 use volume_meaning::ENTRY_PLACES;
@@ -103,6 +103,10 @@ fn least_fake(volume: &KeptVolume, blocks: &[ListBlock], owed: &OwedPostings) ->
 {
     let mut least = None;
     for block in blocks {
+        // Blocks may meet where cells were tampered with, and they do not come by rising cells.
+        if lies_behind(&least, block.block) {
+            continue;
+        }
         least = lower_of(
             least,
             first_fake_in(&volume.kept, &volume.geometry, block, &owed.table),
