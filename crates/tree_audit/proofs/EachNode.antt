@@ -1,5 +1,5 @@
 -- A rule that asks the same of the cells of each node: found by going through the nodes of all levels in any order.
-use Rattle.std.proofs.Common.{◌≡◌, ◌<◌, ◌≤◌, ◌+◌, ⊎_elim, ℕ, List, length, get_or, Option, Some, None, sym, ◌∙◌, subst, arith}
+use Rattle.std.proofs.Common.{◌≡◌, ◌<◌, ◌≤◌, ◌+◌, ℕ, List, length, get_or, Option, Some, sym, ◌∙◌, subst, arith}
 use Rattle.std.specs.Prelude.{slice_get}
 use Rattle.std.proofs.lemmas.Option.{slice_get-get_or, slice_get_within}
 use Rattle.cell_types.specs.Image.{Image}
@@ -8,10 +8,8 @@ use Rattle.cell_types.specs.declared.refusal.Evidence.{Evidence}
 use Rattle.volume_meaning.specs.Nodes.{IsNode}
 use Rattle.tamper_rules.specs.Rules.{Rule, IsMet}
 use Rattle.log_audit.specs.Findings.{FindsBroken}
-use Rattle.log_audit.specs.Least.{FindsPart, lower_finding}
-use Rattle.log_audit.proofs.OneMore.{below_or_at}
-use Rattle.log_audit.proofs.Parts.{AskedBelow, as_asked, one_part, finds_all}
-use Rattle.tree_audit.specs.Buckets.{IsBehind}
+use Rattle.log_audit.specs.Least.{FindsPart, LiesBehind, lower_finding}
+use Rattle.log_audit.proofs.Parts.{AskedBelow, as_asked, one_part, part_behind, finds_all}
 use Rattle.tree_audit.specs.Nodes.{AreNodes}
 use Rattle.tree_audit.specs.declared.nodes.LevelNode.{LevelNode}
 
@@ -47,20 +45,10 @@ module _ (g : Layout) (image : Image) (rule : Rule) (nodes : List LevelNode) (As
 
     -- one behind what was found, which asks nothing of the cells before that
     pub node_behind : ((level node cell : ℕ) → cell < node → Asks level node cell) → (least : Option Evidence)
-        → FindsPart g image rule (AskedBelow (NodeAt nodes Asks) i) least → IsBehind least (node_at nodes i).node
+        → FindsPart g image rule (AskedBelow (NodeAt nodes Asks) i) least → LiesBehind least (node_at nodes i).node
         → FindsPart g image rule (AskedBelow (NodeAt nodes Asks) (i + 1)) least
-    node_behind nothing None finds behind = absurd behind
-    node_behind nothing (Some e) finds behind = record {
-      number = finds.number;
-      place = finds.place;
-      stands = finds.stands;
-      broken = λ each. finds.broken (λ part before. each part (omega (arith, before)));
-      below = λ cell lower written part before. ⊎_elim
-          (λ (earlier : part < i). finds.below cell lower written part earlier)
-          (λ (same : part ≡ i). subst (λ (k : ℕ). NodeAt nodes Asks k cell) (sym same)
-          (same_node cell (nothing (node_at nodes i).level (node_at nodes i).node cell (omega (arith, lower, behind)))))
-          (below_or_at part i before);
-    }
+    node_behind nothing least finds behind = part_behind g image rule (NodeAt nodes Asks) i (node_at nodes i).node least finds behind
+        (λ cell before. same_node cell (nothing (node_at nodes i).level (node_at nodes i).node cell before))
 
   -- all nodes
   pub every_node : (least : Option Evidence) → AreNodes g image nodes → FindsPart g image rule (AskedBelow (NodeAt nodes Asks) i) least

@@ -14,12 +14,11 @@ ghost use Rattle.tree_audit.specs.Children.{AsksChild, HasCopyOf, IsClear, IsJou
 ghost use Rattle.tree_audit.specs.Nodes.{AreNodes, HasChildInPool};
 
 use crate::around::{Around, TARGET_STEP, around_of};
-use crate::buckets::lies_behind;
 use crate::looks::child_at;
 use crate::nodes::{LAST_LEVEL, LevelNode};
 use cell_types::{Cell, Evidence, Geometry, NoMemory};
 use list_audit::ListBlock;
-use log_audit::{KeptCells, KeptVolume, StoredSlot, has_between, lower_of};
+use log_audit::{KeptCells, KeptVolume, StoredSlot, has_between, lies_behind, lower_of};
 use slot_audit::journal_place_of;
 use std::alloc::Global;
 use tamper_rules::LOST_CHILD;

@@ -26,7 +26,7 @@ use crate::nodes::LevelNode;
 use crate::occupied::OccupiedCells;
 use cell_types::{Evidence, NoMemory};
 use list_audit::ListBlock;
-use log_audit::{KeptVolume, lower_of};
+use log_audit::{KeptVolume, lies_behind, lower_of};
 use std::alloc::Global;
 use tamper_rules::LOST_POINTER;
 
@@ -57,6 +57,10 @@ pub fn first_broken_pointer(
     let occupied = OccupiedCells::of(alloc, &volume.kept, &volume.geometry, blocks, nodes)?;
     let mut least = None;
     for block in blocks {
+        // Blocks may meet where cells were tampered with, and they do not come by rising cells.
+        if lies_behind(&least, block.block) {
+            continue;
+        }
         least = lower_of(least, first_in_block(volume, &occupied, block));
     }
     Ok(least)

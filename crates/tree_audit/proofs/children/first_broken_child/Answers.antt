@@ -11,7 +11,7 @@ pub loop-place-preserved-then-lies_behind : goal.loop-place-preserved-then-lies_
 loop-place-preserved-then-lies_behind c = let volume = c.args.volume.now in
     node_behind volume.geometry (image_in volume) Children c.args.nodes.now (AsksChild volume.geometry (image_in volume)) c.loop-place.place-index
     (omega (arith, c.loop-place-test.true)) (asks_none_before volume.geometry (image_in volume)) c.loop-place.least
-    c.loop-place.invariant (c.lies_behind.ensures c.if-lies_behind.true)
+    c.loop-place.invariant (c.lies_behind.ensures.0 c.if-lies_behind.true)
 
 pub loop-place-preserved : goal.loop-place-preserved
 loop-place-preserved c = let volume = c.args.volume.now in
