@@ -14,7 +14,8 @@ mod trees;
 pub use audits::audit_again;
 pub use kept::{broken_outcome_again, keep_cells_again, lower_of_again};
 pub use lists::{
-    blocks_of_again, broken_entry_again, broken_posting_again, broken_trail_again, posting_at_again,
+    blocks_for_two_again, blocks_of_again, broken_entry_again, broken_posting_again,
+    broken_trail_again, posting_at_again,
 };
 pub use slots::{
     broken_journal_again, broken_stray_again, broken_target_again, broken_tiling_again,

@@ -1,6 +1,6 @@
 //! The blocks of lists, their entries and trails.
 ghost use Rattle.std.specs.Prelude.{◌≡◌, IfNone, IfOk, IfSome, Some};
-ghost use Rattle.list_audit.specs.Blocks.{AreListBlocks};
+ghost use Rattle.list_audit.specs.Blocks.{AreBlocksForTwo, AreListBlocks, AreNumbered};
 ghost use Rattle.list_audit.specs.Owed.{IsAllOwed};
 ghost use Rattle.log_audit.specs.KeptVolumes.{FindsIn, IsStated, KeepsBelow, image_in};
 ghost use Rattle.log_audit.specs.Findings.{FindsBroken};
@@ -12,8 +12,8 @@ ghost use Rattle.volume_meaning.specs.Volumes.{Holds};
 use cell_types::{Evidence, Geometry, NoMemory};
 use host_ports::Meter;
 use list_audit::{
-    ListBlock, OwedPostings, blocks_of, first_broken_entry, first_broken_posting,
-    first_broken_trail, posting_at,
+    ListBlock, ListBlocks, OwedPostings, blocks_for_two, blocks_of, first_broken_entry,
+    first_broken_posting, first_broken_trail, posting_at,
 };
 use log_audit::{KeptCells, KeptVolume};
 use std::alloc::Global;
@@ -30,13 +30,25 @@ pub fn blocks_of_again(
     blocks_of(alloc, kept, geometry)
 }
 
+/// `blocks_for_two`.
+pub fn blocks_for_two_again(
+    alloc: Global,
+    kept: &KeptCells,
+    geometry: &Geometry,
+) -> Result<ListBlocks, NoMemory>
+    ensures blocks { IfOk result (λ found. AreBlocksForTwo geometry.now (image_of_kept kept.now) found.blocks.items) }
+    ensures numbered { IfOk result (λ found. AreNumbered found.blocks.items found.numbers) }
+{
+    blocks_for_two(alloc, kept, geometry)
+}
+
 /// `first_broken_entry`.
 pub fn broken_entry_again(
     kept: &KeptCells,
     geometry: &Geometry,
     blocks: &[ListBlock],
 ) -> Option<Evidence>
-    requires { AreListBlocks geometry.now (image_of_kept kept.now) blocks.now }
+    requires { AreBlocksForTwo geometry.now (image_of_kept kept.now) blocks.now }
     ensures { FindsBroken geometry.now (image_of_kept kept.now) Entries result }
 {
     first_broken_entry(kept, geometry, blocks)
@@ -53,16 +65,19 @@ pub fn posting_at_again(kept: &KeptCells, at: u32) -> Option<PostingFields>
 
 /// `first_broken_posting`.
 pub fn broken_posting_again(
+    alloc: Global,
     volume: &KeptVolume,
-    blocks: &[ListBlock],
+    blocks: &ListBlocks,
     owed: &OwedPostings,
-) -> Option<Evidence>
+) -> Result<Option<Evidence>, NoMemory>
     requires stated { IsStated volume.now }
-    requires blocks { AreListBlocks volume.now.geometry (image_in volume.now) blocks.now }
+    requires blocks { AreBlocksForTwo volume.now.geometry (image_in volume.now) blocks.now.blocks.items }
+    requires numbered { AreNumbered blocks.now.blocks.items blocks.now.numbers }
     requires owed { IsAllOwed volume.now owed.now }
-    ensures { FindsIn volume.now Postings result }
+    requires met { KeepsBelow volume.now 9 }
+    ensures { IfOk result (λ found. FindsIn volume.now Postings found) }
 {
-    first_broken_posting(volume, blocks, owed)
+    first_broken_posting(alloc, volume, blocks, owed)
 }
 
 /// `first_broken_trail`.

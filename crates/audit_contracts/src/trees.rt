@@ -1,6 +1,6 @@
 //! Pointers, buckets and child cells.
 ghost use Rattle.std.specs.Prelude.{IfOk};
-ghost use Rattle.list_audit.specs.Blocks.{AreListBlocks};
+ghost use Rattle.list_audit.specs.Blocks.{AreBlocksForTwo};
 ghost use Rattle.log_audit.specs.KeptVolumes.{FindsIn, HasAllCells, IsStated, KeepsBelow, KeepsRule, image_in};
 ghost use Rattle.tamper_rules.specs.Rules.{Buckets, Children, Documents, Journals, Pointers, ReserveCells};
 ghost use Rattle.tree_audit.specs.Nodes.{AreNodes};
@@ -19,7 +19,7 @@ pub fn broken_pointer_again(
     nodes: &[LevelNode],
 ) -> Result<Option<Evidence>, NoMemory>
     requires met { KeepsBelow volume.now 10 }
-    requires blocks { AreListBlocks volume.now.geometry (image_in volume.now) blocks.now }
+    requires blocks { AreBlocksForTwo volume.now.geometry (image_in volume.now) blocks.now }
     requires nodes { AreNodes volume.now.geometry (image_in volume.now) nodes.now }
     ensures { IfOk result (λ found. FindsIn volume.now Pointers found) }
 {
@@ -47,7 +47,7 @@ pub fn broken_child_again(
     requires met { KeepsRule volume.now ReserveCells }
     requires journals { KeepsRule volume.now Journals }
     requires nodes { AreNodes volume.now.geometry (image_in volume.now) nodes.now }
-    requires blocks { AreListBlocks volume.now.geometry (image_in volume.now) blocks.now }
+    requires blocks { AreBlocksForTwo volume.now.geometry (image_in volume.now) blocks.now }
     ensures { IfOk result (λ found. FindsIn volume.now Children found) }
 {
     first_broken_child(alloc, volume, nodes, blocks)

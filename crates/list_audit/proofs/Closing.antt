@@ -1,6 +1,6 @@
 -- The blocks of all lists, closed under their pointers.
-use Rattle.std.proofs.Common.{◌≡◌, ◌<◌, ◌≤◌, ◌+◌, ◌-◌, ◌*◌, ◌/◌, ◌%◌, ◌⊎◌, ⊎_elim, ℕ, List, [], length, get_or, Some, None, refl, sym, ◌∙◌, subst, arith}
-use Rattle.std.specs.Prelude.{slice_get}
+use Rattle.std.proofs.Common.{◌≡◌, ◌<◌, ◌≤◌, ◌+◌, ◌-◌, ◌*◌, ◌/◌, ◌%◌, ◌⊎◌, ⊎_elim, inr, ℕ, Bool, List, [], length, get_or, Some, None, refl, sym, ◌∙◌, subst, arith}
+use Rattle.std.specs.Prelude.{IsTrue, slice_get}
 use Rattle.std.proofs.lemmas.Bool.{cases_order}
 use Rattle.std.proofs.lemmas.Option.{slice_get_within, none-some, slice_get-get_or}
 use Rattle.cell_types.specs.Image.{Image}
@@ -9,34 +9,31 @@ use Rattle.cell_types.specs.declared.record_cell.RecordCell.TheVariants.{Jump}
 use Rattle.volume_meaning.proofs.Holding.{one_record_holds}
 use Rattle.volume_meaning.specs.Blocks.{Leads, arrived, onwards}
 use Rattle.volume_meaning.specs.Nodes.{IsBlockOf}
-use Rattle.list_audit.specs.Blocks.{IsAmongBlocks, AreOnce, AreListBlocks, PointsTo, AddsBlock, LeadsAmong, AreClosedBelow}
+use Rattle.list_audit.specs.Blocks.{IsAmongBlocks, IsShared, IsTaken, AreOnce, AreTakenBlocks, PointsTo, AddsBlock, LeadsAmong, AreClosedBelow}
 use Rattle.list_audit.specs.declared.listed.ListBlock.{ListBlock}
+use Rattle.list_audit.proofs.Taking.{taken_more}
 
 earlier_or_last : (k n : ℕ) → k < n + 1 → (k < n) ⊎ (k ≡ n)
 earlier_or_last k n h = grind arith
-
--- what is among the blocks is among more
-pub among_more : {l block : ℕ} {old new : List ListBlock} → AddsBlock l block old new → (m other : ℕ) → IsAmongBlocks old m other → IsAmongBlocks new m other
-among_more adds m other a = record { place = a.place; one = a.one; there = adds.keeps a.place a.one a.there; list = a.list; is = a.is }
 
 -- the first block of a list is one of its
 pub first_is : (g : Layout) (image : Image) (l : ℕ) → l < all_lists g → IsBlockOf g image l (list_at g l)
 first_is g image l less = record { list = less; leads = arrived (list_at g l) refl }
 
 -- the first blocks of the lists below n were found
-pub record AreFirstBelow (g : Layout) (n : ℕ) (blocks : List ListBlock) : Type 0 where
+pub record AreFirstBelow (for_two : Bool) (g : Layout) (n : ℕ) (blocks : List ListBlock) : Type 0 where
   pub reached : (i : ℕ) (b : ListBlock) → slice_get blocks i ≡ Some b → (b.list < all_lists g) × (b.block ≡ list_at g b.list)
-  pub firsts : (l : ℕ) → l < n → IsAmongBlocks blocks l (list_at g l)
+  pub firsts : (l : ℕ) → l < n → IsTaken for_two blocks l (list_at g l)
 
-pub no_first : (g : Layout) (blocks : List ListBlock) → blocks ≡ [] → AreFirstBelow g 0 blocks
-no_first g blocks none = subst (AreFirstBelow g 0) (sym none) (record {
+pub no_first : (for_two : Bool) (g : Layout) (blocks : List ListBlock) → blocks ≡ [] → AreFirstBelow for_two g 0 blocks
+no_first for_two g blocks none = subst (AreFirstBelow for_two g 0) (sym none) (record {
   reached = λ i b there. absurd (omega (arith, slice_get_within [] i b there));
   firsts = λ l less. absurd (omega (arith, less));
 })
 
-pub one_first : {g : Layout} {n block : ℕ} {old new : List ListBlock} → AreFirstBelow g n old → n < all_lists g → block ≡ list_at g n
-    → AddsBlock n block old new → AreFirstBelow g (n + 1) new
-one_first {g} {n} {block} {old} {new} are less at adds = record {
+pub one_first : {for_two : Bool} {g : Layout} {n block : ℕ} {old new : List ListBlock} → AreFirstBelow for_two g n old → n < all_lists g
+    → block ≡ list_at g n → AddsBlock for_two n block old new → AreFirstBelow for_two g (n + 1) new
+one_first {for_two} {g} {n} {block} {old} {new} are less at adds = record {
   reached = λ i b there. ⊎_elim
       (λ (before : slice_get old i ≡ Some b). are.reached i b before)
       (λ (is : (b.list ≡ n) × (b.block ≡ block)). (
@@ -45,13 +42,14 @@ one_first {g} {n} {block} {old} {new} are less at adds = record {
       ))
       (adds.only i b there);
   firsts = λ l below. ⊎_elim
-      (λ (earlier : l < n). among_more adds l (list_at g l) (are.firsts l earlier))
-      (λ (same : l ≡ n). subst (λ (m : ℕ). IsAmongBlocks new m (list_at g m)) (sym same) (subst (IsAmongBlocks new n) at adds.has))
+      (λ (earlier : l < n). taken_more adds l (list_at g l) (are.firsts l earlier))
+      (λ (same : l ≡ n). subst (λ (m : ℕ). IsTaken for_two new m (list_at g m)) (sym same) (subst (IsTaken for_two new n) at adds.has))
       (earlier_or_last l n below);
 }
 
-pub all_first : {g : Layout} {n : ℕ} {blocks : List ListBlock} (image : Image) → AreFirstBelow g n blocks → all_lists g ≤ n → AreClosedBelow g image 0 blocks
-all_first {g} {n} {blocks} image are past = record {
+pub all_first : {for_two : Bool} {g : Layout} {n : ℕ} {blocks : List ListBlock} (image : Image) → AreFirstBelow for_two g n blocks
+    → all_lists g ≤ n → AreClosedBelow for_two g image 0 blocks
+all_first {for_two} {g} {n} {blocks} image are past = record {
   reached = λ i b there. let is = are.reached i b there in
       subst (IsBlockOf g image b.list) (sym is.1) (first_is g image b.list is.0);
   firsts = λ l less. are.firsts l (omega (arith, less, past));
@@ -59,10 +57,10 @@ all_first {g} {n} {blocks} image are past = record {
 }
 
 -- The pointer places of the block of this turn below one were followed.
-pub record IsFollowed (g : Layout) (image : Image) (n : ℕ) (from : ListBlock) (pointer : ℕ) (blocks : List ListBlock) : Type 0 where
-  pub below : AreClosedBelow g image n blocks
+pub record IsFollowed (for_two : Bool) (g : Layout) (image : Image) (n : ℕ) (from : ListBlock) (pointer : ℕ) (blocks : List ListBlock) : Type 0 where
+  pub below : AreClosedBelow for_two g image n blocks
   pub here : slice_get blocks n ≡ Some from
-  pub leads : LeadsAmong g image blocks from pointer
+  pub leads : LeadsAmong for_two g image blocks from pointer
 
 -- the level and digit of a pointer place
 level_of : (pointer : ℕ) → 128 ≤ pointer → pointer < 248
@@ -100,63 +98,63 @@ block_inside {g} {image} {l} {block} layout is = from (list_at g l) is.leads (he
 pub one_target : {g : Layout} {image : Image} {at a b : ℕ} → PointsTo g image at a → PointsTo g image at b → a ≡ b
 one_target {g} {image} {at} {a} {b} h k = let e = one_record_holds image at (Jump a) (Jump b) h.held k.held in cc
 
--- a place from which no pointer leads on
-pub no_target : {g : Layout} {image : Image} {n : ℕ} {from : ListBlock} {pointer : ℕ} {blocks : List ListBlock}
-    → IsFollowed g image n from pointer blocks → ((target : ℕ) → PointsTo g image (from.block + pointer) target → ⊥)
-    → IsFollowed g image n from (pointer + 1) blocks
-no_target {g} {image} {n} {from} {pointer} {blocks} w none = record {
-  below = w.below;
-  here = w.here;
-  leads = λ p t low high h. ⊎_elim
-      (λ (less : p < pointer). w.leads p t low less h)
-      (λ (same : p ≡ pointer). absurd (none t (subst (λ (q : ℕ). PointsTo g image (from.block + q) t) same h)))
-      (earlier_or_last p pointer high);
-}
+module _ {for_two : Bool} {g : Layout} {image : Image} {n : ℕ} where
+  -- a place from which no pointer leads on
+  pub no_target : {from : ListBlock} {pointer : ℕ} {blocks : List ListBlock} → IsFollowed for_two g image n from pointer blocks
+      → ((target : ℕ) → PointsTo g image (from.block + pointer) target → ⊥) → IsFollowed for_two g image n from (pointer + 1) blocks
+  no_target {from} {pointer} {blocks} w none = record {
+    below = w.below;
+    here = w.here;
+    leads = λ p t low high h. ⊎_elim
+        (λ (less : p < pointer). w.leads p t low less h)
+        (λ (same : p ≡ pointer). absurd (none t (subst (λ (q : ℕ). PointsTo g image (from.block + q) t) same h)))
+        (earlier_or_last p pointer high);
+  }
 
--- a pointer that leads to a block, which was added
-pub one_more : {g : Layout} {image : Image} {n : ℕ} {from : ListBlock} {pointer target : ℕ} {old new : List ListBlock}
-    → IsFollowed g image n from pointer old → 128 ≤ pointer → pointer < 248 → PointsTo g image (from.block + pointer) target
-    → AddsBlock from.list target old new → IsFollowed g image n from (pointer + 1) new
-one_more {g} {image} {n} {from} {pointer} {target} {old} {new} w low high points adds = record {
-  below = record {
-    reached = λ i b there. ⊎_elim
-        (λ (before : slice_get old i ≡ Some b). w.below.reached i b before)
-        (λ (is : (b.list ≡ from.list) × (b.block ≡ target)).
-        subst (λ (l : ℕ). IsBlockOf g image l b.block) (sym is.0) (subst (IsBlockOf g image from.list) (sym is.1)
-        (leads_on (w.below.reached n from w.here) low high points)))
-        (adds.only i b there);
-    firsts = λ l less. among_more adds l (list_at g l) (w.below.firsts l less);
-    closed = λ i b less there p t from' to h. among_more adds b.list t (w.below.closed i b less (before i b less there) p t from' to h);
-  };
-  here = adds.keeps n from w.here;
-  leads = λ p t from' to h. ⊎_elim
-      (λ (less : p < pointer). among_more adds from.list t (w.leads p t from' less h))
-      (λ (same : p ≡ pointer). subst (IsAmongBlocks new from.list)
-      (one_target points (subst (λ (q : ℕ). PointsTo g image (from.block + q) t) same h)) adds.has)
-      (earlier_or_last p pointer to);
-}
-  where
-    before : (i : ℕ) (b : ListBlock) → i < n → slice_get new i ≡ Some b → slice_get old i ≡ Some b
-    before i b less there =
-        let inside : i < length old = omega (arith, less, slice_get_within old n from w.here) in
-        let is : slice_get old i ≡ Some (get_or old i b) = slice_get-get_or old i b inside in
-        let same : Some (get_or old i b) ≡ Some b = sym (adds.keeps i (get_or old i b) is) ∙ there in
-        is ∙ same
+  -- a pointer that leads to a block, which was added
+  pub one_more : {from : ListBlock} {pointer target : ℕ} {old new : List ListBlock}
+      → IsFollowed for_two g image n from pointer old → 128 ≤ pointer → pointer < 248 → PointsTo g image (from.block + pointer) target
+      → AddsBlock for_two from.list target old new → IsFollowed for_two g image n from (pointer + 1) new
+  one_more {from} {pointer} {target} {old} {new} w low high points adds = record {
+    below = record {
+      reached = λ i b there. ⊎_elim
+          (λ (before : slice_get old i ≡ Some b). w.below.reached i b before)
+          (λ (is : (b.list ≡ from.list) × (b.block ≡ target)).
+          subst (λ (l : ℕ). IsBlockOf g image l b.block) (sym is.0) (subst (IsBlockOf g image from.list) (sym is.1)
+          (leads_on (w.below.reached n from w.here) low high points)))
+          (adds.only i b there);
+      firsts = λ l less. taken_more adds l (list_at g l) (w.below.firsts l less);
+      closed = λ i b less there p t from' to h. taken_more adds b.list t (w.below.closed i b less (before i b less there) p t from' to h);
+    };
+    here = adds.keeps n from w.here;
+    leads = λ p t from' to h. ⊎_elim
+        (λ (less : p < pointer). taken_more adds from.list t (w.leads p t from' less h))
+        (λ (same : p ≡ pointer). subst (IsTaken for_two new from.list)
+        (one_target points (subst (λ (q : ℕ). PointsTo g image (from.block + q) t) same h)) adds.has)
+        (earlier_or_last p pointer to);
+  }
+    where
+      before : (i : ℕ) (b : ListBlock) → i < n → slice_get new i ≡ Some b → slice_get old i ≡ Some b
+      before i b less there =
+          let inside : i < length old = omega (arith, less, slice_get_within old n from w.here) in
+          let is : slice_get old i ≡ Some (get_or old i b) = slice_get-get_or old i b inside in
+          let same : Some (get_or old i b) ≡ Some b = sym (adds.keeps i (get_or old i b) is) ∙ there in
+          is ∙ same
 
--- each pointer place of the block was followed
-pub turn_done : {g : Layout} {image : Image} {n : ℕ} {from : ListBlock} {pointer : ℕ} {blocks : List ListBlock}
-    → IsFollowed g image n from pointer blocks → 248 ≤ pointer → AreClosedBelow g image (n + 1) blocks
-turn_done {g} {image} {n} {from} {pointer} {blocks} w past = record {
-  reached = w.below.reached;
-  firsts = w.below.firsts;
-  closed = λ i b less there p t low high h. ⊎_elim
-      (λ (earlier : i < n). w.below.closed i b earlier there p t low high h)
-      (λ (same : i ≡ n). let e : Some from ≡ Some b = sym w.here ∙ subst (λ (k : ℕ). slice_get blocks k ≡ Some b) same there in
-      let eq : from ≡ b = cc in
-      subst (λ (c : ListBlock). IsAmongBlocks blocks c.list t) eq (w.leads p t low (omega (arith, high, past))
-      (subst (λ (c : ListBlock). PointsTo g image (c.block + p) t) (sym eq) h)))
-      (earlier_or_last i n less);
-}
+  -- each pointer place of the block was followed
+  pub turn_done : {from : ListBlock} {pointer : ℕ} {blocks : List ListBlock} → IsFollowed for_two g image n from pointer blocks → 248 ≤ pointer
+      → AreClosedBelow for_two g image (n + 1) blocks
+  turn_done {from} {pointer} {blocks} w past = record {
+    reached = w.below.reached;
+    firsts = w.below.firsts;
+    closed = λ i b less there p t low high h. ⊎_elim
+        (λ (earlier : i < n). w.below.closed i b earlier there p t low high h)
+        (λ (same : i ≡ n). let e : Some from ≡ Some b = sym w.here ∙ subst (λ (k : ℕ). slice_get blocks k ≡ Some b) same there in
+        let eq : from ≡ b = cc in
+        subst (λ (c : ListBlock). IsTaken for_two blocks c.list t) eq (w.leads p t low (omega (arith, high, past))
+        (subst (λ (c : ListBlock). PointsTo g image (c.block + p) t) (sym eq) h)))
+        (earlier_or_last i n less);
+  }
 
 -- no block is left for the next turn
 past_blocks : (blocks : List ListBlock) (n : ℕ) → slice_get blocks n ≡ None → length blocks ≤ n
@@ -168,21 +166,40 @@ past_blocks blocks n none = ⊎_elim
     (λ more. omega (arith, more)) differ)
     (cases_order n (length blocks))
 
--- where no block is left these are all blocks
-pub all_found : {g : Layout} {image : Image} {n : ℕ} {blocks : List ListBlock} → AreClosedBelow g image n blocks → AreOnce blocks
-    → slice_get blocks n ≡ None → AreListBlocks g image blocks
-all_found {g} {image} {n} {blocks} below once none = record {
-  each = below.reached;
-  all = λ l block is. from l block (list_at g l) is.leads (below.firsts l is.list);
-  once = once;
-}
-  where
-    from : (l block start : ℕ) → Leads image (pool_at g) g.cells block start → IsAmongBlocks blocks l start → IsAmongBlocks blocks l block
-    from l block start (arrived b same) a = subst (IsAmongBlocks blocks l) same a
-    from l block start (onwards b level digit target x y z jump low high rest) a =
-        let inside = slice_get_within blocks a.place a.one a.there in
-        let past = past_blocks blocks n none in
-        let points : PointsTo g image (a.one.block + (127 + 15 * level + digit)) target =
-        subst (λ (k : ℕ). PointsTo g image (k + (127 + 15 * level + digit)) target) (sym a.is) (record { held = jump; from = low; to = high }) in
-        from l block target rest (subst (λ (m : ℕ). IsAmongBlocks blocks m target) a.list
-        (below.closed a.place a.one (omega (arith, inside, past)) a.there (127 + 15 * level + digit) target (omega arith) (omega arith) points))
+module _ {for_two : Bool} {g : Layout} {image : Image} {n : ℕ} {blocks : List ListBlock} (below : AreClosedBelow for_two g image n blocks)
+    (none : slice_get blocks n ≡ None) where
+  -- what a block leads to was taken for the block's list
+  among_leads : (l block pointer target : ℕ) → IsAmongBlocks blocks l block → 128 ≤ pointer → pointer < 248 → PointsTo g image (block + pointer) target
+      → IsTaken for_two blocks l target
+  among_leads l block pointer target a low high points =
+      let inside = slice_get_within blocks a.place a.one a.there in
+      subst (λ (m : ℕ). IsTaken for_two blocks m target) a.list
+      (below.closed a.place a.one (omega (arith, inside, past_blocks blocks n none)) a.there pointer target low high
+      (subst (λ (k : ℕ). PointsTo g image (k + pointer) target) (sym a.is) points))
+
+  -- so what is there for two others leads to what is there for two
+  taken_leads : (l block pointer target : ℕ) → IsTaken for_two blocks l block → 128 ≤ pointer → pointer < 248 → PointsTo g image (block + pointer) target
+      → IsTaken for_two blocks l target
+  taken_leads l block pointer target taken low high points = ⊎_elim
+      (λ (among : IsAmongBlocks blocks l block). among_leads l block pointer target among low high points)
+      (λ (h : IsTrue for_two × IsShared blocks block). let s = h.1 in ⊎_elim
+      (λ (one : IsAmongBlocks blocks s.one target). ⊎_elim
+      (λ (other : IsAmongBlocks blocks s.other target). inr (h.0, record { one = s.one; other = s.other; first = one; second = other; two = s.two }))
+      (λ (shared : IsTrue for_two × IsShared blocks target). inr shared)
+      (among_leads s.other block pointer target s.second low high points))
+      (λ (shared : IsTrue for_two × IsShared blocks target). inr shared)
+      (among_leads s.one block pointer target s.first low high points))
+      taken
+
+  taken_from : (l block start : ℕ) → Leads image (pool_at g) g.cells block start → IsTaken for_two blocks l start → IsTaken for_two blocks l block
+  taken_from l block start (arrived b same) taken = subst (IsTaken for_two blocks l) same taken
+  taken_from l block start (onwards b level digit target x y z jump low high rest) taken = taken_from l block target rest
+      (taken_leads l start (127 + 15 * level + digit) target taken (omega arith) (omega arith) (record { held = jump; from = low; to = high }))
+
+  -- where no block is left each was taken
+  pub all_found : AreOnce blocks → AreTakenBlocks for_two g image blocks
+  all_found once = record {
+    each = below.reached;
+    all = λ l block is. taken_from l block (list_at g l) is.leads (below.firsts l is.list);
+    once = once;
+  }

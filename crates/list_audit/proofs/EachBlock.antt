@@ -1,21 +1,50 @@
 -- A rule that asks the same of the cells of each block: found by going through the blocks of all lists in any order.
-use Rattle.std.proofs.Common.{◌≡◌, ◌≤◌, ◌+◌, ℕ, List, length, Option, Some, sym, ◌∙◌, subst, arith}
+use Rattle.std.proofs.Common.{◌≡◌, ◌≤◌, ◌<◌, ◌+◌, ⊎_elim, ℕ, List, length, Option, Some, None, sym, ◌∙◌, subst, arith}
 use Rattle.std.specs.Prelude.{slice_get}
 use Rattle.std.proofs.lemmas.Option.{slice_get_within}
 use Rattle.cell_types.specs.Image.{Image}
 use Rattle.cell_types.specs.Layout.{Layout}
 use Rattle.cell_types.specs.declared.refusal.Evidence.{Evidence}
 use Rattle.volume_meaning.specs.Nodes.{IsBlockOf}
+use Rattle.volume_meaning.specs.Volumes.{IsWritten}
 use Rattle.tamper_rules.specs.Rules.{Rule, IsMet}
 use Rattle.log_audit.specs.Findings.{FindsBroken}
-use Rattle.log_audit.specs.Least.{FindsPart, lower_finding}
-use Rattle.log_audit.proofs.Parts.{AskedBelow, as_asked, one_part, finds_all}
-use Rattle.list_audit.specs.Blocks.{AreListBlocks}
+use Rattle.log_audit.specs.Least.{FindsPart, LiesBehind, lower_finding}
+use Rattle.log_audit.proofs.Parts.{AskedBelow, as_asked, one_part, part_behind, finds_all}
+use Rattle.list_audit.specs.Blocks.{AreBlocksForTwo, AreListBlocks, AreOfLists, AskedOf, IsAmongBlocks, IsShared}
 use Rattle.list_audit.specs.declared.listed.ListBlock.{ListBlock}
 
 -- what is asked of a cell on account of the block at this place
 abbrev pub BlockAt : List ListBlock → (ℕ → ℕ → ℕ → Type 0) → ℕ → ℕ → Type 0
 BlockAt blocks Asks i cell = (b : ListBlock) → slice_get blocks i ≡ Some b → Asks b.list b.block cell
+
+-- what is asked of a cell on account of each block of a list
+abbrev pub AskedOfAll : Layout → Image → (ℕ → ℕ → ℕ → Type 0) → ℕ → Type 0
+AskedOfAll g image Asks cell = (l block : ℕ) → IsBlockOf g image l block → Asks l block cell
+
+-- what these blocks ask of the cells up to a written one decides what all ask of it
+abbrev pub DecideAll : Layout → Image → List ListBlock → (ℕ → ℕ → ℕ → Type 0) → Type 0
+DecideAll g image blocks Asks = (cell : ℕ) → IsWritten image cell
+    → ((lower : ℕ) → lower ≤ cell → IsWritten image lower → AskedOf blocks Asks lower) → AskedOfAll g image Asks cell
+
+-- what is asked on account of a block that is among these
+pub asked_of : (Asks : ℕ → ℕ → ℕ → Type 0) {blocks : List ListBlock} {l block : ℕ} (cell : ℕ) → AskedOf blocks Asks cell
+    → IsAmongBlocks blocks l block → Asks l block cell
+asked_of Asks cell asked a =
+    subst (λ (m : ℕ). Asks m _ cell) a.list (subst (λ (c : ℕ). Asks a.one.list c cell) a.is (asked a.place a.one a.there))
+
+-- blocks of all lists decide
+pub all_decide : {g : Layout} {image : Image} {blocks : List ListBlock} (Asks : ℕ → ℕ → ℕ → Type 0) → AreListBlocks g image blocks
+    → DecideAll g image blocks Asks
+all_decide Asks are cell written asked l block is = asked_of Asks cell (asked cell (omega arith) written) (are.all l block is)
+
+-- so do those for two of what is asked of a block whose ever it is
+pub two_decide : {g : Layout} {image : Image} {blocks : List ListBlock} (Asks : ℕ → ℕ → Type 0) → AreBlocksForTwo g image blocks
+    → DecideAll g image blocks (λ (_ block : ℕ). Asks block)
+two_decide {g} {image} {blocks} Asks are cell written asked l block is = ⊎_elim
+    (λ (among : IsAmongBlocks blocks l block). asked_of (λ (_ block : ℕ). Asks block) cell (asked cell (omega arith) written) among)
+    (λ (shared : IsShared blocks block). asked_of (λ (_ block : ℕ). Asks block) cell (asked cell (omega arith) written) shared.first)
+    (are.all l block is)
 
 module _ (g : Layout) (image : Image) (rule : Rule) (blocks : List ListBlock) (Asks : ℕ → ℕ → ℕ → Type 0) where
   -- one block more
@@ -31,15 +60,43 @@ module _ (g : Layout) (image : Image) (rule : Rule) (blocks : List ListBlock) (A
       subst (λ (d : ListBlock). Asks d.list d.block cell) same asked)
       (λ cell each. each b there)))
 
-  -- all blocks
+  -- a block behind what was found, which asks nothing of the cells before it
+  pub block_behind : (n : ℕ) (b : ListBlock) (least : Option Evidence) → FindsPart g image rule (AskedBelow (BlockAt blocks Asks) n) least
+      → slice_get blocks n ≡ Some b → LiesBehind least b.block → ((cell : ℕ) → cell < b.block → Asks b.list b.block cell)
+      → FindsPart g image rule (AskedBelow (BlockAt blocks Asks) (n + 1)) least
+  block_behind n b least before there behind nothing = part_behind g image rule (BlockAt blocks Asks) n b.block least before behind
+      (λ cell less c at. let e : Some b ≡ Some c = sym there ∙ at in let same : b ≡ c = cc in
+      subst (λ (d : ListBlock). Asks d.list d.block cell) same (nothing cell less))
+
+  -- each of these
+  pub each_block : (n : ℕ) (least : Option Evidence) → FindsPart g image rule (AskedBelow (BlockAt blocks Asks) n) least → length blocks ≤ n
+      → FindsPart g image rule (AskedOf blocks Asks) least
+  each_block n least finds past = as_asked g image rule (AskedBelow (BlockAt blocks Asks) n) (AskedOf blocks Asks) least finds
+      (λ cell below i b there. below i (let w = slice_get_within blocks i b there in omega (arith, w, past)) b there)
+      (λ cell each i less b there. each i b there)
+
+  -- all blocks, by these
+  pub decided : AreOfLists g image blocks → DecideAll g image blocks Asks → (least : Option Evidence)
+      → FindsPart g image rule (AskedOf blocks Asks) least
+      → ((cell : ℕ) → AskedOfAll g image Asks cell → IsMet g image rule cell)
+      → ((cell : ℕ) → IsMet g image rule cell → AskedOfAll g image Asks cell)
+      → FindsBroken g image rule least
+  decided each decide least finds met unmet = finds_all g image rule (AskedOfAll g image Asks) least (of_all least finds) met unmet
+    where
+      of_all : (found : Option Evidence) → FindsPart g image rule (AskedOf blocks Asks) found → FindsPart g image rule (AskedOfAll g image Asks) found
+      of_all None p = λ cell written. decide cell written (λ lower low is. p lower is)
+      of_all (Some e) p = record {
+        number = p.number;
+        place = p.place;
+        stands = p.stands;
+        broken = λ all. p.broken (λ i b there. all b.list b.block (each i b there));
+        below = λ cell less written. decide cell written (λ lower low is. p.below lower (omega (arith, less, low)) is);
+      }
+
+  -- all blocks, where each is listed
   pub every_block : (n : ℕ) (least : Option Evidence) → AreListBlocks g image blocks
       → FindsPart g image rule (AskedBelow (BlockAt blocks Asks) n) least → length blocks ≤ n
-      → ((cell : ℕ) → ((l block : ℕ) → IsBlockOf g image l block → Asks l block cell) → IsMet g image rule cell)
-      → ((cell : ℕ) → IsMet g image rule cell → (l block : ℕ) → IsBlockOf g image l block → Asks l block cell)
+      → ((cell : ℕ) → AskedOfAll g image Asks cell → IsMet g image rule cell)
+      → ((cell : ℕ) → IsMet g image rule cell → AskedOfAll g image Asks cell)
       → FindsBroken g image rule least
-  every_block n least are finds past met unmet = finds_all g image rule (AskedBelow (BlockAt blocks Asks) n) least finds
-      (λ cell each. met cell (λ l block is.
-      let a = are.all l block is in
-      subst (λ (m : ℕ). Asks m block cell) a.list (subst (λ (c : ℕ). Asks a.one.list c cell) a.is
-      (each a.place (let w = slice_get_within blocks a.place a.one a.there in omega (arith, w, past)) a.one a.there))))
-      (λ cell is i less b there. unmet cell is b.list b.block (are.each i b there))
+  every_block n least are finds past = decided are.each (all_decide Asks are) least (each_block n least finds past)

@@ -10,5 +10,7 @@ pub mod Placing
 pub mod Spelling
 pub mod Stepping
 pub mod Tabling
+mod Sharing
+mod Taking
 pub mod Trailing
 pub mod Walking

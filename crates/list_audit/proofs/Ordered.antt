@@ -14,7 +14,7 @@ use Rattle.list_audit.specs.Entries.{BlockAsks}
 is_less : (a b : ℕ) → a < b → IsTrue (nat_lt a b)
 is_less a b h = grind (arith, nat_tests)
 
-less_is : (a b : ℕ) → IsTrue (nat_lt a b) → a < b
+pub less_is : (a b : ℕ) → IsTrue (nat_lt a b) → a < b
 less_is a b h = grind (arith, nat_tests)
 
 -- two postings that stand one behind the other are in order just where the key of the first is smaller

@@ -1,10 +1,10 @@
 -- Blocks whose pointers were followed.
-use Rattle.std.specs.Prelude.{◌≡◌, ◌<◌, ◌≤◌, ◌+◌, ◌^◌, ◌⊎◌, ℕ, List, true}
+use Rattle.std.specs.Prelude.{◌≡◌, ◌<◌, ◌≤◌, ◌+◌, ◌^◌, ◌⊎◌, ℕ, Bool, List, true}
 use Rattle.std.specs.Ordering.{nat_cmp}
 use Rattle.std.specs.BTreeSet.{BTreeSet, contains}
 use Rattle.cell_types.specs.Image.{Image}
 use Rattle.cell_types.specs.Layout.{Layout}
-use Rattle.list_audit.specs.Blocks.{IsAmongBlocks, PointsTo}
+use Rattle.list_audit.specs.Blocks.{IsTaken, PointsTo}
 use Rattle.list_audit.specs.Numbers.{block_number}
 use Rattle.list_audit.specs.declared.listed.ListBlock.{ListBlock}
 
@@ -28,7 +28,7 @@ pub record IsFollowedAt (numbers : BTreeSet ℕ) (l at : ℕ) : Type 0 where
   pub to : pointer < 248
   pub is : at ≡ block + pointer
 
--- each block to which such a cell leads is among these, of the same list
-abbrev pub AreFollowed : Layout → Image → BTreeSet ℕ → List ListBlock → Type 0
-AreFollowed g image numbers blocks =
-    (l at target : ℕ) → IsFollowedAt numbers l at → PointsTo g image at target → IsAmongBlocks blocks l target
+-- each block to which such a cell leads was taken, of the same list
+abbrev pub AreFollowed : Bool → Layout → Image → BTreeSet ℕ → List ListBlock → Type 0
+AreFollowed for_two g image numbers blocks =
+    (l at target : ℕ) → IsFollowedAt numbers l at → PointsTo g image at target → IsTaken for_two blocks l target

@@ -1,5 +1,6 @@
 pub mod Blocks
 pub mod Bodies
+pub mod Deciding
 pub mod Entries
 pub mod Following
 pub mod Keeping

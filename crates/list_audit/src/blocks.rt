@@ -1,13 +1,16 @@
-//! The blocks of all lists.
+//! The blocks of all lists: each of a list once, for each list that leads to it or for two of them.
+//!
+//! Two suffice to go on from, too: what a block of two lists leads to is of both, or is passed over since it is there for
+//! two others.
 ghost use Rattle.std.specs.Prelude.{◌≡◌, ◌<◌, ◌+◌, IfOk, OnOk, Some, slice_get};
 ghost use Rattle.cell_types.specs.Image.{Image};
 ghost use Rattle.cell_types.specs.Layout.{all_lists};
 ghost use Rattle.log_audit.specs.Kept.{image_of_kept};
-ghost use Rattle.list_audit.specs.Blocks.{AreListBlocks, AreNumbered, AreClosedBelow, LeadsAmong};
+ghost use Rattle.list_audit.specs.Blocks.{AreListBlocks, AreBlocksForTwo, AreTakenBlocks, AreNumbered, AreClosedBelow, LeadsAmong};
 ghost use Rattle.list_audit.specs.Following.{AreFollowed};
 
 use crate::followed::FollowedBlocks;
-use crate::found::FoundBlocks;
+use crate::found::{FoundBlocks, ListBlocks};
 use crate::listed::ListBlock;
 use crate::targets::pointer_target;
 use cell_types::{Geometry, NoMemory, memory};
@@ -32,18 +35,54 @@ pub fn blocks_of(
 ) -> Result<Vec<ListBlock>, NoMemory>
     ensures { IfOk result (λ blocks. AreListBlocks geometry.now (image_of_kept kept.now) blocks.items) }
 {
-    let mut found = first_blocks(alloc, geometry)?;
+    let found = found_blocks(alloc, kept, geometry, false)?;
+    Ok(found.blocks)
+}
+
+/// The blocks of all lists, the time list among them, each of a list once, and of two lists at most: a block to which
+/// more lists lead is one of two of them. They come in no order.
+///
+/// # Errors
+///
+/// `NoMemory`, also where there are 2^32 blocks.
+pub fn blocks_for_two(
+    alloc: Global,
+    kept: &KeptCells,
+    geometry: &Geometry,
+) -> Result<ListBlocks, NoMemory>
+    ensures blocks { IfOk result (λ found. AreBlocksForTwo geometry.now (image_of_kept kept.now) found.blocks.items) }
+    ensures numbered { IfOk result (λ found. AreNumbered found.blocks.items found.numbers) }
+{
+    let found = found_blocks(alloc, kept, geometry, true)?;
+    Ok(ListBlocks {
+        blocks: found.blocks,
+        numbers: found.numbers,
+    })
+}
+
+/// The blocks of all lists, all or those for two.
+fn found_blocks(
+    alloc: Global,
+    kept: &KeptCells,
+    geometry: &Geometry,
+    for_two: bool,
+) -> Result<FoundBlocks, NoMemory>
+    ensures blocks { IfOk result
+        (λ found. AreTakenBlocks for_two geometry.now (image_of_kept kept.now) found.blocks.items) }
+    ensures numbered { IfOk result (λ found. AreNumbered found.blocks.items found.numbers) }
+{
+    let mut found = first_blocks(alloc, geometry, for_two)?;
     let mut followed = FollowedBlocks::none(alloc);
     for turn in 0..u32::MAX {
         let Some(from) = found.at(turn) else {
-            return Ok(found.blocks);
+            return Ok(found);
         };
         add_targets(kept, geometry, turn, &from, &followed, &mut found)?;
         followed.add(from)?;
     }
     // Each of 2^32 - 1 blocks has had its turn, and no memory holds one more.
     memory::count_of(&found.blocks)?;
-    Ok(found.blocks)
+    Ok(found)
 }
 
 /// How many lists there are with the time list.
@@ -57,11 +96,13 @@ pub(crate) fn list_count(geometry: &Geometry) -> u16
 }
 
 /// The first block of each list.
-fn first_blocks(alloc: Global, geometry: &Geometry) -> Result<FoundBlocks, NoMemory>
-    ensures closed { IfOk result (λ found. (image : Image) → AreClosedBelow geometry.now image 0 found.blocks.items) }
+fn first_blocks(alloc: Global, geometry: &Geometry, for_two: bool) -> Result<FoundBlocks, NoMemory>
+    ensures mode { IfOk result (λ found. found.for_two ≡ for_two) }
+    ensures closed { IfOk result
+        (λ found. (image : Image) → AreClosedBelow for_two geometry.now image 0 found.blocks.items) }
     ensures numbered { IfOk result (λ found. AreNumbered found.blocks.items found.numbers) }
 {
-    let mut found = FoundBlocks::none(alloc);
+    let mut found = FoundBlocks::none(alloc, for_two);
     for list in 0..list_count(geometry) {
         let block = geometry.list_at(list);
         found.add(ListBlock { list, block })?;
@@ -80,16 +121,19 @@ fn add_targets(
     found: &mut FoundBlocks,
 ) -> Result<(), NoMemory>
     requires numbered { AreNumbered found.old.blocks.items found.old.numbers }
-    requires closed { AreClosedBelow geometry.now (image_of_kept kept.now) turn found.old.blocks.items }
+    requires closed { AreClosedBelow found.old.for_two geometry.now (image_of_kept kept.now) turn found.old.blocks.items }
     requires here { slice_get found.old.blocks.items turn ≡ Some from.now }
-    requires followed { AreFollowed geometry.now (image_of_kept kept.now) followed.now.numbers found.old.blocks.items }
+    requires followed { AreFollowed found.old.for_two geometry.now (image_of_kept kept.now) followed.now.numbers
+        found.old.blocks.items }
+    ensures mode { found.new.for_two ≡ found.old.for_two }
     ensures closed { OnOk result
-        (AreClosedBelow geometry.now (image_of_kept kept.now) (turn + 1) found.new.blocks.items) }
+        (AreClosedBelow found.old.for_two geometry.now (image_of_kept kept.now) (turn + 1) found.new.blocks.items) }
     ensures numbered { OnOk result (AreNumbered found.new.blocks.items found.new.numbers) }
     ensures followed { OnOk result
-        (AreFollowed geometry.now (image_of_kept kept.now) followed.now.numbers found.new.blocks.items) }
+        (AreFollowed found.old.for_two geometry.now (image_of_kept kept.now) followed.now.numbers found.new.blocks.items) }
     ensures leads { OnOk result
-        (LeadsAmong geometry.now (image_of_kept kept.now) found.new.blocks.items from.now BEHIND_POINTERS) }
+        (LeadsAmong found.old.for_two geometry.now (image_of_kept kept.now) found.new.blocks.items from.now
+        BEHIND_POINTERS) }
 {
     let _cells = geometry.cells();
     let behind = followed.behind_pointers_of(from);

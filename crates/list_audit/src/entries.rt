@@ -5,28 +5,33 @@ ghost use Rattle.volume_meaning.specs.Nodes.{IsBlockOf};
 ghost use Rattle.log_audit.specs.Kept.{image_of_kept};
 ghost use Rattle.log_audit.specs.Findings.{FindsBroken};
 ghost use Rattle.log_audit.specs.Least.{FindsPart};
-ghost use Rattle.list_audit.specs.Blocks.{AreListBlocks};
+ghost use Rattle.list_audit.specs.Blocks.{AreBlocksForTwo};
 ghost use Rattle.list_audit.specs.Entries.{KeepsEntryRule, BlockAsks};
 
 use crate::blocks::{BEHIND_POINTERS, FIRST_POINTER};
 use crate::held_posting::posting_at;
 use crate::listed::ListBlock;
 use cell_types::{Evidence, Geometry};
-use log_audit::{KeptCells, lower_of};
+use log_audit::{KeptCells, lies_behind, lower_of};
 use tamper_rules::BLOCK_OUT_OF_ORDER;
 use volume_meaning::BLOCK_CELLS;
 
-/// The least cell of a block at which rule 8 is broken, of these blocks of all lists.
+/// The least cell of a block at which rule 8 is broken, of these blocks of all lists. Rule 8 asks the same of a block whosever
+/// it is, so that two lists of it suffice.
 pub fn first_broken_entry(
     kept: &KeptCells,
     geometry: &Geometry,
     blocks: &[ListBlock],
 ) -> Option<Evidence>
-    requires { AreListBlocks geometry.now (image_of_kept kept.now) blocks.now }
+    requires { AreBlocksForTwo geometry.now (image_of_kept kept.now) blocks.now }
     ensures { FindsBroken geometry.now (image_of_kept kept.now) Entries result }
 {
     let mut least = None;
     for block in blocks {
+        // Blocks may meet where cells were tampered with, and they do not come by rising cells.
+        if lies_behind(&least, block.block) {
+            continue;
+        }
         least = lower_of(least, first_in_block(kept, geometry, block));
     }
     least

@@ -1,9 +1,8 @@
 //! Blocks whose pointers were followed.
-ghost use Rattle.std.specs.Prelude.{◌≡◌, ◌<◌, ◌≤◌, ◌+◌, ◌^◌, ℕ, IfSome, OnOk, true};
-ghost use Rattle.std.specs.BTreeSet.{contains};
-ghost use Rattle.std.specs.Ordering.{nat_cmp};
+ghost use Rattle.std.specs.Prelude.{◌<◌, ◌≤◌, ◌+◌, ◌^◌, ℕ, OnOk};
 ghost use Rattle.list_audit.specs.Following.{AddsFollowed, HasNoneFollowed, IsFollowedAt};
 
+use crate::between::{first_between, last_between};
 use crate::blocks::{BEHIND_POINTERS, FIRST_POINTER};
 use crate::listed::ListBlock;
 use cell_types::{NoMemory, memory};
@@ -45,7 +44,7 @@ impl FollowedBlocks {
     {
         let number = listed.number();
         let reach = u64::from(listed.block.min(POINTER_PLACES - 1));
-        let Some(before) = self.last_between(number - reach, number) else {
+        let Some(before) = last_between(&self.numbers, number - reach, number) else {
             return FIRST_POINTER;
         };
         BEHIND_POINTERS - (number - before) as u32
@@ -59,29 +58,10 @@ impl FollowedBlocks {
             → IsFollowedAt self.now.numbers listed.now.list (listed.now.block + pointer) }
     {
         let next = listed.number() + 1;
-        let Some(after) = self.first_between(next, next + u64::from(POINTER_PLACES - 1)) else {
+        let Some(after) = first_between(&self.numbers, next, next + u64::from(POINTER_PLACES - 1))
+        else {
             return BEHIND_POINTERS;
         };
         FIRST_POINTER + 1 + (after - next) as u32
-    }
-
-    /// The greatest number from one up to another.
-    fn last_between(&self, from: u64, behind: u64) -> Option<u64>
-        requires { from ≤ behind }
-        ensures { IfSome result (λ number. (from ≤ number) × (number < behind)
-            × (contains nat_cmp self.now.numbers number ≡ true)) }
-    {
-        let number = self.numbers.range(from..behind).next_back()?;
-        Some(*number)
-    }
-
-    /// The least one.
-    fn first_between(&self, from: u64, behind: u64) -> Option<u64>
-        requires { from ≤ behind }
-        ensures { IfSome result (λ number. (from ≤ number) × (number < behind)
-            × (contains nat_cmp self.now.numbers number ≡ true)) }
-    {
-        let number = self.numbers.range(from..behind).next()?;
-        Some(*number)
     }
 }

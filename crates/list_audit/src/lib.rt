@@ -9,10 +9,13 @@
 //!     list 1    block 292    its first
 //!     list 0    block 620    from cell 164 = 36 + 128
 //!
-//! Nobody says that a volume is a good one. Its pointers may lead in a circle, two lists may lead into one block, and
+//! Nobody says that a volume is a good one. Its pointers may lead in a circle, many lists may lead into one block, and
 //! blocks may meet. So each block of a list is taken once, whatever leads to it, and a block to which two lists lead is
-//! one of each. That costs 24 bytes a block and no bytes for a cell of none. Blocks of a list that meet have pointer places
-//! in common, up to 119 of them, and each is followed once for the list, by `followed.rt`.
+//! one of each. A third list's is passed over (`blocks_for_two`), so that there are two blocks a cell at most, however
+//! many lists somebody has led there. Two are enough for each rule but in one case of rule 9, for which all are listed
+//! (`blocks_of`). That costs 24 bytes a block while they are found, 16 from then on, and no bytes for a cell of none.
+//! Blocks of a list that meet have pointer places in common, up to 119 of them, and each is followed once for the list,
+//! by `followed.rt`.
 //!
 //! **Rule 8** asks of the cells of a block that postings stand at its first places, without a gap and by rising keys, and
 //! nothing behind its pointers:
@@ -30,6 +33,7 @@
 //! `blocks.rt`, then `rules.rt`; `specs/Blocks.antt` says what the blocks of all lists are.
 #![tactic(auto)]
 
+mod between;
 mod blocks;
 mod bodies;
 mod entries;
@@ -46,8 +50,9 @@ mod table;
 mod targets;
 mod trails;
 
-pub use blocks::blocks_of;
+pub use blocks::{blocks_for_two, blocks_of};
 pub use entries::first_broken_entry;
+pub use found::ListBlocks;
 pub use held_posting::posting_at;
 pub use listed::ListBlock;
 pub use postings::first_broken_posting;

@@ -1,9 +1,12 @@
 //! A block of a list.
 ghost use Rattle.std.specs.Prelude.{◌≡◌};
-ghost use Rattle.list_audit.specs.Numbers.{block_number};
+ghost use Rattle.list_audit.specs.Numbers.{block_number, neighbour_number};
 
 /// How far the numbers of the blocks of a list lie from those of the next.
 pub(crate) const LIST_STEP: u64 = 4_294_967_296;
+
+/// How far its other numbers lie from those of the block behind it: there are fewer lists.
+pub(crate) const BLOCK_STEP: u64 = 65_536;
 
 /// A block, and a list whose pointers lead to it.
 #[derive(Clone, Copy, Debug, PartialEq, Eq)]
@@ -20,5 +23,12 @@ impl ListBlock {
         ensures { result ≡ block_number self.now.list self.now.block }
     {
         u64::from(self.list) * LIST_STEP + u64::from(self.block)
+    }
+
+    /// Another such number, next to those of the other lists that have the block.
+    pub(crate) fn neighbour_number(&self) -> u64
+        ensures { result ≡ neighbour_number self.now.list self.now.block }
+    {
+        u64::from(self.block) * BLOCK_STEP + u64::from(self.list)
     }
 }

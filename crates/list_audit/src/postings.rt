@@ -1,35 +1,112 @@
 //! Rule 9: postings that are some document's.
+ghost use Rattle.std.specs.Prelude.{IfOk, IsTrue};
 ghost use Rattle.volume_meaning.specs.Nodes.{IsBlockOf};
 ghost use Rattle.tamper_rules.specs.Rules.{Postings};
-ghost use Rattle.log_audit.specs.KeptVolumes.{FindsIn, IsStated, image_in};
+ghost use Rattle.log_audit.specs.KeptVolumes.{FindsIn, FindsPartIn, IsStated, KeepsBelow, image_in};
 ghost use Rattle.log_audit.specs.Kept.{image_of_kept};
 ghost use Rattle.log_audit.specs.Least.{FindsPart};
-ghost use Rattle.list_audit.specs.Blocks.{AreListBlocks};
+ghost use Rattle.list_audit.specs.Blocks.{AreBlocksForTwo, AreNumbered, AreOfLists, AskedOf, IsAmongBlocks};
+ghost use Rattle.list_audit.specs.Deciding.{AreDecided, IsDecided};
 ghost use Rattle.list_audit.specs.Owed.{IsAllOwed};
 ghost use Rattle.list_audit.specs.Owing.{AreOwed, BlockOwes};
 ghost use Rattle.list_audit.specs.Tables.{AreOrderedRows};
 
+use crate::between::first_between;
+use crate::blocks::blocks_of;
+use crate::found::ListBlocks;
 use crate::held_posting::posting_at;
-use crate::listed::ListBlock;
+use crate::listed::{BLOCK_STEP, ListBlock};
 use crate::table::{OwedPostings, PostingTable};
-use cell_types::{Evidence, Geometry};
-use log_audit::{KeptCells, KeptVolume, lower_of};
+use cell_types::{Evidence, Geometry, NoMemory};
+use log_audit::{KeptCells, KeptVolume, lies_behind, lower_of};
+use std::alloc::Global;
 use tamper_rules::FAKE_POSTING;
 use volume_meaning::ENTRY_PLACES;
 
-/// The least cell of a block at which rule 9 is broken, of these blocks of all lists, by what documents are owed.
+/// The least cell of a block at which rule 9 is broken, of these blocks of all lists, by what documents are owed, where the
+/// rules of lower numbers are kept.
+///
+/// Two lists of a block suffice but where its first posting is owed to both that are known, since a third might not be
+/// owed it. There all blocks are listed.
+///
+/// # Errors
+///
+/// `NoMemory`.
 pub fn first_broken_posting(
+    alloc: Global,
     volume: &KeptVolume,
-    blocks: &[ListBlock],
+    blocks: &ListBlocks,
     owed: &OwedPostings,
-) -> Option<Evidence>
+) -> Result<Option<Evidence>, NoMemory>
     requires stated { IsStated volume.now }
-    requires blocks { AreListBlocks volume.now.geometry (image_in volume.now) blocks.now }
+    requires blocks { AreBlocksForTwo volume.now.geometry (image_in volume.now) blocks.now.blocks.items }
+    requires numbered { AreNumbered blocks.now.blocks.items blocks.now.numbers }
     requires owed { IsAllOwed volume.now owed.now }
-    ensures { FindsIn volume.now Postings result }
+    requires met { KeepsBelow volume.now 9 }
+    ensures { IfOk result (λ found. FindsIn volume.now Postings found) }
+{
+    if are_decided(volume, blocks, owed) {
+        return Ok(least_fake(volume, &blocks.blocks, owed));
+    }
+    let all = blocks_of(alloc, &volume.kept, &volume.geometry)?;
+    Ok(least_fake(volume, &all, owed))
+}
+
+/// Whether no block begins with a posting that is owed to two of its lists, as far as they are known.
+fn are_decided(volume: &KeptVolume, blocks: &ListBlocks, owed: &OwedPostings) -> bool
+    requires numbered { AreNumbered blocks.now.blocks.items blocks.now.numbers }
+    requires owed { IsAllOwed volume.now owed.now }
+    ensures { IsTrue result → AreDecided volume.now.geometry (image_in volume.now) blocks.now.blocks.items }
+{
+    for listed in &blocks.blocks {
+        if !is_decided(volume, blocks, listed, owed) {
+            return false;
+        }
+    }
+    true
+}
+
+/// Whether a block does not begin with a posting that is owed to its list and to the first of its lists.
+fn is_decided(
+    volume: &KeptVolume,
+    blocks: &ListBlocks,
+    listed: &ListBlock,
+    owed: &OwedPostings,
+) -> bool
+    requires numbered { AreNumbered blocks.now.blocks.items blocks.now.numbers }
+    requires among { IsAmongBlocks blocks.now.blocks.items listed.now.list listed.now.block }
+    requires owed { IsAllOwed volume.now owed.now }
+    ensures { IsTrue result → IsDecided volume.now.geometry (image_in volume.now) blocks.now.blocks.items listed.now }
+{
+    let from = u64::from(listed.block) * BLOCK_STEP;
+    let Some(lower) = first_between(&blocks.numbers, from, listed.neighbour_number()) else {
+        return true;
+    };
+    let Some(posting) = posting_at(&volume.kept, listed.block) else {
+        return true;
+    };
+    let Some(_here) = owed.table.place_of(listed.list, &posting, 0) else {
+        return true;
+    };
+    let Some(_there) = owed.table.place_of((lower - from) as u16, &posting, 0) else {
+        return true;
+    };
+    false
+}
+
+/// The least cell at which one of these blocks breaks rule 9.
+fn least_fake(volume: &KeptVolume, blocks: &[ListBlock], owed: &OwedPostings) -> Option<Evidence>
+    requires blocks { AreOfLists volume.now.geometry (image_in volume.now) blocks.now }
+    requires owed { IsAllOwed volume.now owed.now }
+    ensures { FindsPartIn volume.now Postings
+        (AskedOf blocks.now (BlockOwes volume.now.geometry (image_in volume.now))) result }
 {
     let mut least = None;
     for block in blocks {
+        // Blocks may meet where cells were tampered with, and they do not come by rising cells.
+        if lies_behind(&least, block.block) {
+            continue;
+        }
         least = lower_of(
             least,
             first_fake_in(&volume.kept, &volume.geometry, block, &owed.table),

@@ -18,6 +18,10 @@
 //! posting, and a posting is two written cells, its own and its copy in a journal: with the 20 bytes of each kept cell 56
 //! bytes for the two. Room for as many postings as journals hold is taken at once.
 //!
+//! A block to which many lists lead is known for two of them, which suffices where its first posting is not owed to both:
+//! then its first cell breaks the rule for one of the two, and whatever the other lists are owed, no cell of the block is
+//! less. It may be owed to both where two words have one tag, and a third list might not be owed it: there all are listed.
+//!
 //! **Rule 13** is asked at each done cell, once the rules of lower numbers are kept. That makes a step of a trail short:
 //! the entries of a block stand without a gap and by rising keys, so that the place of a key is found in 10 looks, and
 //! mostly in one; and each pointer that is written leads well. Spans grow narrower from block to block, by a factor of

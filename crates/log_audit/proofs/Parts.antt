@@ -8,7 +8,7 @@ use Rattle.cell_types.specs.declared.refusal.Evidence.{Evidence}
 use Rattle.volume_meaning.specs.Volumes.{IsWritten}
 use Rattle.tamper_rules.specs.Rules.{Rule, IsMet, IsPlace, number_of}
 use Rattle.log_audit.specs.Findings.{FindsBroken}
-use Rattle.log_audit.specs.Least.{IsLeastOf, FindsPart, lower_finding}
+use Rattle.log_audit.specs.Least.{IsLeastOf, FindsPart, LiesBehind, lower_finding}
 use Rattle.log_audit.proofs.Families.{AreFine}
 
 nat_le_true : (a b : ℕ) → nat_le a b ≡ true → a ≤ b
@@ -94,6 +94,22 @@ module _ (g : Layout) (image : Image) (rule : Rule) where
       (λ (same : part ≡ n). subst (λ (k : ℕ). Asked k cell) (sym same) both.1)
       (earlier_or_last part n less))
       (λ cell each. (λ part less. each part (omega (arith, less)), each n (omega arith)))
+
+  -- a part that asks nothing before a cell behind what was found
+  pub part_behind : (Asked : ℕ → ℕ → Type 0) (n from : ℕ) (found : Option Evidence)
+      → FindsPart g image rule (AskedBelow Asked n) found → LiesBehind found from → ((cell : ℕ) → cell < from → Asked n cell)
+      → FindsPart g image rule (AskedBelow Asked (n + 1)) found
+  part_behind Asked n from None finds behind nothing = absurd behind
+  part_behind Asked n from (Some e) finds behind nothing = record {
+    number = finds.number;
+    place = finds.place;
+    stands = finds.stands;
+    broken = λ each. finds.broken (λ part less. each part (omega (arith, less)));
+    below = λ cell less written part before. ⊎_elim
+        (λ (earlier : part < n). finds.below cell less written part earlier)
+        (λ (same : part ≡ n). subst (λ (k : ℕ). Asked k cell) (sym same) (nothing cell (omega (arith, less, behind))))
+        (earlier_or_last part n before);
+  }
 
   -- what asks no more and no less than the rule finds for the rule
   pub finds_all : (Asked : ℕ → Type 0) (found : Option Evidence) → FindsPart g image rule Asked found

@@ -25,3 +25,8 @@ abbrev pub lower_finding : Option Evidence → Option Evidence → Option Eviden
 lower_finding None other = other
 lower_finding (Some one) None = Some one
 lower_finding (Some one) (Some other) = if nat_le one.cell other.cell then Some one else Some other
+
+-- the cell lies behind what was found
+abbrev pub LiesBehind : Option Evidence → ℕ → Type 0
+LiesBehind None cell = ⊥
+LiesBehind (Some e) cell = e.cell < cell

@@ -67,7 +67,7 @@ pub use kept_volume::KeptVolume;
 pub use laws::{evidence_is_one, stored_slots_are_live};
 pub use log::{Log, log_of};
 pub use looks::{lies_in_pool, record_at, reservation};
-pub use lower::lower_of;
+pub use lower::{lies_behind, lower_of};
 pub use shown::Shown;
 pub use sorted::{has_between, sort_once};
 pub use stored::StoredSlot;

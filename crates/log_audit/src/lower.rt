@@ -1,6 +1,6 @@
-//! The lower of two findings.
-ghost use Rattle.std.specs.Prelude.{◌≡◌};
-ghost use Rattle.log_audit.specs.Least.{lower_finding};
+//! The lower of two findings, and what lies behind one.
+ghost use Rattle.std.specs.Prelude.{◌≡◌, ◌↔◌, IsTrue};
+ghost use Rattle.log_audit.specs.Least.{LiesBehind, lower_finding};
 
 use cell_types::Evidence;
 
@@ -18,4 +18,14 @@ pub fn lower_of(one: Option<Evidence>, other: Option<Evidence>) -> Option<Eviden
         return Some(first);
     }
     Some(second)
+}
+
+/// Whether a cell lies behind what was found. Nothing that is broken there is the least.
+pub fn lies_behind(found: &Option<Evidence>, cell: u32) -> bool
+    ensures { IsTrue result ↔ LiesBehind found.now cell }
+{
+    let Some(least) = found else {
+        return false;
+    };
+    least.cell < cell
 }

@@ -72,41 +72,6 @@ bucket_place x cell layout (IsNode.root level node first is) low at =
 bucket_place x cell layout (IsNode.under level node v above y next rest few levels child from to) low at =
     inr (omega (arith, from, at), omega (arith, to, at, low))
 
--- what is asked on account of each node
-abbrev pub AsksAt : Layout → Image → List LevelNode → ℕ → ℕ → Type 0
-AsksAt g image nodes i cell = (n : LevelNode) → slice_get nodes i ≡ Some n → AsksBucket g image n.node cell
-
-module _ {g : Layout} {image : Image} {nodes : List LevelNode} (are : AreNodes g image nodes) where
-  -- all nodes ask what the rule does
-  pub asks_all : (many : ℕ) → length nodes ≤ many → (cell : ℕ) → AskedBelow (AsksAt g image nodes) many cell → BucketRule g image cell
-  asks_all many all cell asked v node x is low at =
-      let a = are.all v node is in
-      asked a.index (let w = slice_get_within nodes a.index _ a.there in omega (arith, w, all)) _ a.there x low at
-
-  pub all_ask : (many : ℕ) (cell : ℕ) → BucketRule g image cell → AskedBelow (AsksAt g image nodes) many cell
-  all_ask many cell rule part less n there x low at = rule n.level n.node x (are.each part n there) low at
-
--- one node asks what it asks
-pub same_node : (g : Layout) (image : Image) (nodes : List LevelNode) (i : ℕ) (n : LevelNode) → slice_get nodes i ≡ Some n → (cell : ℕ)
-    → AsksBucket g image n.node cell → AsksAt g image nodes i cell
-same_node g image nodes i n here cell asks m there =
-    let both : Some n ≡ Some m = sym here ∙ there in
-    let same : n ≡ m = cc in
-    subst (λ (k : LevelNode). AsksBucket g image k.node cell) same asks
-
--- a node behind what was found asks nothing of the cells before that
-pub node_behind : (g : Layout) (image : Image) (nodes : List LevelNode) (i : ℕ) (n : LevelNode) → slice_get nodes i ≡ Some n → (least : Option Evidence)
-    → FindsPart g image Buckets (AskedBelow (AsksAt g image nodes) i) least → IsBehind least n.node
-    → FindsPart g image Buckets (AskedBelow (AsksAt g image nodes) (i + 1)) least
-node_behind g image nodes i n here None finds behind = absurd behind
-node_behind g image nodes i n here (Some e) finds behind = record {
-  number = finds.number;
-  place = finds.place;
-  stands = finds.stands;
-  broken = λ each. finds.broken (λ part less. each part (omega (arith, less)));
-  below = λ cell less written part before. ⊎_elim
-      (λ (earlier : part < i). finds.below cell less written part earlier)
-      (λ (same : part ≡ i). subst (λ (k : ℕ). AsksAt g image nodes k cell) (sym same)
-      (same_node g image nodes i n here cell (λ x low at. absurd (omega (arith, at, less, behind)))))
-      (below_or_at part i before);
-}
+-- a node asks nothing of the cells before it
+pub asks_none_before : (g : Layout) (image : Image) (level node cell : ℕ) → cell < node → AsksBucket g image node cell
+asks_none_before g image level node cell before x low at = absurd (omega (arith, at, before))

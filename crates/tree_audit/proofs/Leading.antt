@@ -279,24 +279,6 @@ copies_itself {g} {image} {cell} {target} leads small =
 pub same_copies : {image : Image} {cell at : ℕ} → HasTarget image cell cell → image at ≡ image cell → HasTarget image at cell
 same_copies h same = record { cell = h.cell; stands = same ∙ h.stands; copy = h.copy; is = h.is }
 
--- what is asked on account of the child cells of each node
-abbrev pub ChildrenAskAt : Layout → Image → List LevelNode → ℕ → ℕ → Type 0
-ChildrenAskAt g image nodes i cell = (n : LevelNode) → slice_get nodes i ≡ Some n → AsksChild g image n.level n.node cell
-
-module _ {g : Layout} {image : Image} {nodes : List LevelNode} (are : AreNodes g image nodes) where
-  -- all nodes ask what the rule does
-  pub children_ask_all : (many : ℕ) → length nodes ≤ many → (cell : ℕ) → AskedBelow (ChildrenAskAt g image nodes) many cell → ChildRule g image cell
-  children_ask_all many all cell asked v node x is low at =
-      let a = are.all v node is in
-      asked a.index (let w = slice_get_within nodes a.index _ a.there in omega (arith, w, all)) _ a.there x low at
-
-  pub all_children_ask : (many : ℕ) (cell : ℕ) → ChildRule g image cell → AskedBelow (ChildrenAskAt g image nodes) many cell
-  all_children_ask many cell rule part less n there x low at = rule n.level n.node x (are.each part n there) low at
-
--- one node asks what it asks
-pub same_children : (g : Layout) (image : Image) (nodes : List LevelNode) (i : ℕ) (n : LevelNode) → slice_get nodes i ≡ Some n → (cell : ℕ)
-    → AsksChild g image n.level n.node cell → ChildrenAskAt g image nodes i cell
-same_children g image nodes i n here cell asks m there =
-    let both : Some n ≡ Some m = sym here ∙ there in
-    let same : n ≡ m = cc in
-    subst (λ (k : LevelNode). AsksChild g image k.level k.node cell) same asks
+-- a node asks nothing of the cells before it
+pub asks_none_before : (g : Layout) (image : Image) (level node cell : ℕ) → cell < node → AsksChild g image level node cell
+asks_none_before g image level node cell before x low at = absurd (omega (arith, at, before))

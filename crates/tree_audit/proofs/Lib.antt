@@ -1,4 +1,6 @@
 pub mod Closing
+pub mod EachNode
+pub mod ForTwo
 pub mod Going
 pub mod Judging
 pub mod Leading

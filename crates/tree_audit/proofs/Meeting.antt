@@ -1,8 +1,9 @@
 -- Which blocks and nodes meet the cells of a block.
-use Rattle.std.proofs.Common.{rules, ◌≡◌, ◌<◌, ◌≤◌, ◌+◌, ◌-◌, ◌*◌, ◌⊎◌, ⊎_elim, inl, inr, ℕ, List, Bool, true, false, subst, arith}
-use Rattle.std.specs.Prelude.{◌↔◌, IsTrue, not}
+use Rattle.std.proofs.Common.{rules, ◌≡◌, ◌<◌, ◌≤◌, ◌+◌, ◌-◌, ◌*◌, ◌⊎◌, ⊎_elim, inl, inr, ℕ, List, Bool, true, false, sym, ◌∙◌, subst, arith}
+use Rattle.std.specs.Prelude.{◌↔◌, Contains, IsTrue, not}
 use Rattle.cell_types.specs.Image.{Image}
 use Rattle.cell_types.specs.Layout.{Layout}
+use Rattle.volume_meaning.specs.Nodes.{AreApart}
 use Rattle.log_audit.specs.Between.{HasBetween}
 use Rattle.log_audit.proofs.Deciding.{no, yes}
 use Rattle.tree_audit.specs.Occupied.{AreOccupied, IsAlone, IsOffNodes, occupied_number}
@@ -62,22 +63,32 @@ module _ (g : Layout) (image : Image) (occupied : OccupiedCells) (are : AreOccup
         → behind ≡ (target + 256) * 65536
         → (HasBetween occupied.blocks.items first own → ⊥) → (HasBetween occupied.blocks.items next behind → ⊥)
         → IsAlone g image l target
-    alone {first} {own} {next} {behind} f o n e lower upper k other is =
-        let there = are.all_blocks k other is in
-        let under : k < 65536 = are.few_lists k other is in
-        ⊎_elim
-        (λ (low : occupied_number k other < first). inr (inr (omega (arith, low, f, under, room))))
-        (λ (from : first ≤ occupied_number k other). ⊎_elim
-        (λ (below : occupied_number k other < own). absurd (lower (record { number = occupied_number k other; there = there; from = from; below = below })))
-        (λ (at : own ≤ occupied_number k other). ⊎_elim
-        (λ (same : occupied_number k other < next). inl (omega (arith, same, at, n, o, under, small), omega (arith, same, at, n, o, under, small)))
-        (λ (after : next ≤ occupied_number k other). ⊎_elim
-        (λ (within : occupied_number k other < behind). absurd (upper (record { number = occupied_number k other; there = there; from = after; below = within })))
-        (λ (far : behind ≤ occupied_number k other). inr (inl (omega (arith, far, e, under))))
-        (order (occupied_number k other) behind))
-        (order (occupied_number k other) next))
-        (order (occupied_number k other) own))
-        (order (occupied_number k other) first)
+    alone {first} {own} {next} {behind} f o n e lower upper k other is = ⊎_elim
+        (λ (told : (k < 65536) × Contains occupied.blocks.items (occupied_number k other)). by_number k told.0 told.1)
+        (λ twice. ⊎_elim
+        (λ one. ⊎_elim
+        (λ second. absurd (twice.two (one.1 ∙ sym second.1)))
+        (λ (apart : AreApart target 256 other 256). inr apart)
+        (by_number twice.other twice.few twice.second))
+        (λ (apart : AreApart target 256 other 256). inr apart)
+        (by_number twice.one twice.small twice.first))
+        (are.all_blocks k other is)
+      where
+        by_number : (m : ℕ) → m < 65536 → Contains occupied.blocks.items (occupied_number m other)
+            → ((other ≡ target) × (m ≡ l)) ⊎ AreApart target 256 other 256
+        by_number m under there = ⊎_elim
+            (λ (low : occupied_number m other < first). inr (inr (omega (arith, low, f, under, room))))
+            (λ (from : first ≤ occupied_number m other). ⊎_elim
+            (λ (below : occupied_number m other < own). absurd (lower (record { number = occupied_number m other; there = there; from = from; below = below })))
+            (λ (at : own ≤ occupied_number m other). ⊎_elim
+            (λ (same : occupied_number m other < next). inl (omega (arith, same, at, n, o, under, small), omega (arith, same, at, n, o, under, small)))
+            (λ (after : next ≤ occupied_number m other). ⊎_elim
+            (λ (within : occupied_number m other < behind). absurd (upper (record { number = occupied_number m other; there = there; from = after; below = within })))
+            (λ (far : behind ≤ occupied_number m other). inr (inl (omega (arith, far, e, under))))
+            (order (occupied_number m other) behind))
+            (order (occupied_number m other) next))
+            (order (occupied_number m other) own))
+            (order (occupied_number m other) first)
 
   -- a node in reach
   pub nodes_tell : {from to : ℕ} → from ≡ target - 31 → to ≡ target + 256 → (b : Bool)

@@ -8,7 +8,7 @@ use Rattle.cell_types.specs.Image.{Image}
 use Rattle.cell_types.specs.Layout.{Layout}
 use Rattle.volume_meaning.specs.Nodes.{IsBlockOf, IsNode}
 use Rattle.log_audit.proofs.OneMore.{below_or_at}
-use Rattle.list_audit.specs.Blocks.{AreListBlocks}
+use Rattle.list_audit.specs.Blocks.{AreBlocksForTwo, IsAmongBlocks, IsShared}
 use Rattle.list_audit.specs.declared.listed.ListBlock.{ListBlock}
 use Rattle.tree_audit.specs.Around.{AddsNumbers, AreAll, AreAround, BeginsBlock, BeginsNode, IsLeadAmong, IsLeadOf, lead_number}
 use Rattle.tree_audit.specs.Nodes.{AreNodes, HasChildInPool}
@@ -165,7 +165,7 @@ more_leads {g} {image} {nodes} {n} {old} {new} {after} one adds there more =
 
 -- what stands around the nodes of a tree
 pub are_around : {g : Layout} {image : Image} {nodes : List LevelNode} {blocks : List ListBlock} (around : Around) → AreNodes g image nodes
-    → AreListBlocks g image blocks → AreAll (BeginsNode nodes (length nodes)) around.nodes.items
+    → AreBlocksForTwo g image blocks → AreAll (BeginsNode nodes (length nodes)) around.nodes.items
     → AreAll (BeginsBlock blocks (length blocks)) around.blocks.items
     → AreAll (IsLeadAmong g image nodes (length nodes)) around.leads.items → AreAround g image around
 are_around {g} {image} {nodes} {blocks} around tree lists starts of_blocks leads = record {
@@ -175,10 +175,16 @@ are_around {g} {image} {nodes} {blocks} around tree lists starts of_blocks leads
       record { index = a.index; first = slice_get_within nodes a.index _ a.there; one = record { level = h.0; node = x }; there = a.there; is = refl });
   blocks = all_same (BeginsBlock blocks (length blocks)) (λ x. (l : ℕ) × IsBlockOf g image l x) of_blocks
       (λ x b. (b.one.list, subst (IsBlockOf g image b.one.list) b.is (lists.each b.index b.one b.there)))
-      (λ x h. let a = lists.all h.0 x h.1 in
-      record { index = a.place; first = slice_get_within blocks a.place _ a.there; one = a.one; there = a.there; is = a.is });
+      (λ x h. ⊎_elim
+      (λ (a : IsAmongBlocks blocks h.0 x). begins a)
+      (λ (two : IsShared blocks x). begins two.first)
+      (lists.all h.0 x h.1));
   leads = all_same (IsLeadAmong g image nodes (length nodes)) (λ x. (level : ℕ) × (node : ℕ) × IsNode g image level node × IsLeadOf g image node 32 x) leads
       (λ x l. (l.one.level, l.one.node, tree.each l.index l.one l.there, l.lead))
       (λ x h. let a = tree.all h.0 h.1 h.2 in
       record { index = a.index; first = slice_get_within nodes a.index _ a.there; one = record { level = h.0; node = h.1 }; there = a.there; lead = h.3 });
 }
+  where
+    -- at a block that is listed for a list one begins
+    begins : {l x : ℕ} → IsAmongBlocks blocks l x → BeginsBlock blocks (length blocks) x
+    begins {l} {x} a = record { index = a.place; first = slice_get_within blocks a.place _ a.there; one = a.one; there = a.there; is = a.is }

@@ -1,12 +1,12 @@
 -- The numbers of all blocks and the first cells of all nodes, sorted.
-use Rattle.std.proofs.Common.{◌≡◌, ◌<◌, ⊎_elim, ◌∙◌, ℕ, List, length, get_or, Some, sym, ap, subst, arith}
+use Rattle.std.proofs.Common.{◌≡◌, ◌<◌, ◌*◌, ⊎_elim, inl, inr, ◌∙◌, ℕ, List, length, get_or, Some, sym, ap, subst, arith}
 use Rattle.std.specs.Prelude.{Contains, slice_get}
 use Rattle.std.proofs.lemmas.Grind.{get_or_default_zero}
 use Rattle.std.proofs.lemmas.Option.{slice_get_cases, slice_get-get_or, slice_get_within}
 use Rattle.cell_types.specs.Image.{Image}
 use Rattle.cell_types.specs.Layout.{Layout}
 use Rattle.volume_meaning.specs.Nodes.{IsNode}
-use Rattle.list_audit.specs.Blocks.{AreListBlocks}
+use Rattle.list_audit.specs.Blocks.{AreBlocksForTwo, IsAmongBlocks, IsShared}
 use Rattle.list_audit.specs.declared.listed.ListBlock.{ListBlock}
 use Rattle.tree_audit.specs.Nodes.{AreNodes}
 use Rattle.tree_audit.specs.declared.nodes.LevelNode.{LevelNode}
@@ -38,7 +38,7 @@ thing_at xs k less = ⊎_elim
     (slice_get_cases xs k).1
 
 module _ (g : Layout) (image : Image) {blocks : List ListBlock} {nodes : List LevelNode} {numbers cells : List ℕ} (occupied : OccupiedCells) where
-  pub are_occupied : AreListBlocks g image blocks → AreNodes g image nodes → AreBlockNumbers blocks numbers → AreNodeCells nodes cells
+  pub are_occupied : AreBlocksForTwo g image blocks → AreNodes g image nodes → AreBlockNumbers blocks numbers → AreNodeCells nodes cells
       → AreSortedOnce numbers occupied.blocks.items → AreSortedOnce cells occupied.nodes.items → AreOccupied g image occupied
   are_occupied are_blocks are_nodes numbered listed by_number by_cell = record {
     blocks_ordered = by_number.ordered;
@@ -55,15 +55,20 @@ module _ (g : Layout) (image : Image) {blocks : List ListBlock} {nodes : List Le
           small = n.1;
           number_is = cc;
         };
-    all_blocks = λ l block is.
-        let a = are_blocks.all l block is in
-        let n = numbered.each a.place a.one a.there in
-        subst (λ (m : ℕ). Contains occupied.blocks.items (occupied_number m block)) a.list
-        (subst (λ (m : ℕ). Contains occupied.blocks.items (occupied_number a.one.list m)) a.is
-        (by_number.all (occupied_number a.one.list a.one.block) (contained numbers a.place (occupied_number a.one.list a.one.block) n.0)));
-    few_lists = λ l block is.
-        let a = are_blocks.all l block is in
-        omega (arith, (numbered.each a.place a.one a.there).1, a.list);
+    all_blocks = λ l block is. ⊎_elim
+        (λ (a : IsAmongBlocks blocks l block). inl (told a))
+        (λ (two : IsShared blocks block).
+        let first = told two.first in let second = told two.second in
+        inr (record {
+          one = two.one;
+          other = two.other;
+          first = first.1;
+          second = second.1;
+          small = first.0;
+          few = second.0;
+          two = two.two;
+        }))
+        (are_blocks.all l block is);
     node_is = λ cell has.
         let was = by_cell.only cell has in
         let n = thing_at nodes was.0 (omega (arith, was.1, listed.count)) in
@@ -74,3 +79,13 @@ module _ (g : Layout) (image : Image) {blocks : List ListBlock} {nodes : List Le
         let a = are_nodes.all level cell is in
         by_cell.all cell (contained cells a.index cell (listed.each a.index (record { level = level; node = cell }) a.there));
   }
+    where
+      -- a block that is listed for a list has its number
+      told : {l block : ℕ} → IsAmongBlocks blocks l block → (l < 65536) × Contains occupied.blocks.items (occupied_number l block)
+      told {l} {block} a =
+          let n = numbered.each a.place a.one a.there in (
+            omega (arith, n.1, a.list),
+            subst (λ (m : ℕ). Contains occupied.blocks.items (occupied_number m block)) a.list
+                (subst (λ (m : ℕ). Contains occupied.blocks.items (occupied_number a.one.list m)) a.is
+                (by_number.all (occupied_number a.one.list a.one.block) (contained numbers a.place (occupied_number a.one.list a.one.block) n.0))),
+          )

@@ -1,5 +1,5 @@
 -- The cells of blocks and of nodes.
-use Rattle.std.specs.Prelude.{◌≡◌, ◌<◌, ◌+◌, ◌*◌, ◌⊎◌, ℕ, Contains}
+use Rattle.std.specs.Prelude.{◌≡◌, ◌<◌, ◌+◌, ◌*◌, ◌⊎◌, ℕ, List, Contains}
 use Rattle.std.specs.List.Sorted.{IsStrictlyIncreasing}
 use Rattle.cell_types.specs.Image.{Image}
 use Rattle.cell_types.specs.Layout.{Layout}
@@ -19,18 +19,32 @@ pub record IsBlockNumber (g : Layout) (image : Image) (number : ℕ) : Type 0 wh
   pub small : list < BLOCK_STEP
   pub number_is : number ≡ occupied_number list block
 
+-- two lists have a block there, by these numbers
+pub record IsOccupiedTwice (numbers : List ℕ) (block : ℕ) : Type 0 where
+  pub one : ℕ
+  pub other : ℕ
+  pub first : Contains numbers (occupied_number one block)
+  pub second : Contains numbers (occupied_number other block)
+  pub small : one < BLOCK_STEP
+  pub few : other < BLOCK_STEP
+  pub two : one ≡ other → ⊥
+
+-- the block of list l has its number among these, or two others have theirs
+abbrev pub IsTold : List ℕ → ℕ → ℕ → Type 0
+IsTold numbers l block = ((l < BLOCK_STEP) × Contains numbers (occupied_number l block)) ⊎ IsOccupiedTwice numbers block
+
 -- a node begins at this cell
 pub record IsNodeCell (g : Layout) (image : Image) (cell : ℕ) : Type 0 where
   pub level : ℕ
   pub is : IsNode g image level cell
 
--- these are the numbers of all blocks, and the first cells of all nodes, each in order
+-- These are the numbers of all blocks, of each for two lists at least that have it, and the first cells of all nodes, each
+-- in order.
 pub record AreOccupied (g : Layout) (image : Image) (occupied : OccupiedCells) : Type 0 where
   pub blocks_ordered : IsStrictlyIncreasing occupied.blocks.items
   pub nodes_ordered : IsStrictlyIncreasing occupied.nodes.items
   pub block_is : (number : ℕ) → Contains occupied.blocks.items number → IsBlockNumber g image number
-  pub all_blocks : (l block : ℕ) → IsBlockOf g image l block → Contains occupied.blocks.items (occupied_number l block)
-  pub few_lists : (l block : ℕ) → IsBlockOf g image l block → l < BLOCK_STEP
+  pub all_blocks : (l block : ℕ) → IsBlockOf g image l block → IsTold occupied.blocks.items l block
   pub node_is : (cell : ℕ) → Contains occupied.nodes.items cell → IsNodeCell g image cell
   pub all_nodes : (level cell : ℕ) → IsNode g image level cell → Contains occupied.nodes.items cell
 

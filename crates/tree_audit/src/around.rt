@@ -1,7 +1,7 @@
 //! What stands around a node: other nodes, blocks, and the child cells that lead to it.
 ghost use Rattle.std.specs.Prelude.{◌≡◌, ◌<◌, ◌+◌, ◌^◌, ℕ, [], length, IfOk, OnOk};
 ghost use Rattle.log_audit.specs.Kept.{image_of_kept};
-ghost use Rattle.list_audit.specs.Blocks.{AreListBlocks};
+ghost use Rattle.list_audit.specs.Blocks.{AreBlocksForTwo};
 ghost use Rattle.tree_audit.specs.Around.{AddsNumbers, AreAll, AreAround, BeginsBlock, BeginsNode, IsLeadAmong, IsLeadOf};
 ghost use Rattle.tree_audit.specs.Nodes.{AreNodes};
 
@@ -36,7 +36,7 @@ pub(crate) fn around_of(
     blocks: &[ListBlock],
 ) -> Result<Around, NoMemory>
     requires nodes { AreNodes geometry.now (image_of_kept kept.now) nodes.now }
-    requires blocks { AreListBlocks geometry.now (image_of_kept kept.now) blocks.now }
+    requires blocks { AreBlocksForTwo geometry.now (image_of_kept kept.now) blocks.now }
     ensures { IfOk result (λ around. AreAround geometry.now (image_of_kept kept.now) around) }
 {
     Ok(Around {

@@ -8,7 +8,7 @@ ghost use Rattle.log_audit.specs.Kept.{image_of_kept};
 ghost use Rattle.log_audit.specs.Findings.{IsMetAll};
 ghost use Rattle.log_audit.specs.Stored.{IsStored};
 ghost use Rattle.slot_audit.specs.Copying.{HasTarget};
-ghost use Rattle.list_audit.specs.Blocks.{AreListBlocks};
+ghost use Rattle.list_audit.specs.Blocks.{AreBlocksForTwo};
 ghost use Rattle.tree_audit.specs.Around.{AreAround};
 ghost use Rattle.tree_audit.specs.Children.{AsksChild, HasCopyOf, IsClear, IsJournaled, IsWellLed};
 ghost use Rattle.tree_audit.specs.Nodes.{AreNodes, HasChildInPool};
@@ -18,7 +18,7 @@ use crate::looks::child_at;
 use crate::nodes::{LAST_LEVEL, LevelNode};
 use cell_types::{Cell, Evidence, Geometry, NoMemory};
 use list_audit::ListBlock;
-use log_audit::{KeptCells, KeptVolume, StoredSlot, has_between, lower_of};
+use log_audit::{KeptCells, KeptVolume, StoredSlot, has_between, lies_behind, lower_of};
 use slot_audit::journal_place_of;
 use std::alloc::Global;
 use tamper_rules::LOST_CHILD;
@@ -34,12 +34,16 @@ pub fn first_broken_child(
     requires met { KeepsRule volume.now ReserveCells }
     requires journals { KeepsRule volume.now Journals }
     requires nodes { AreNodes volume.now.geometry (image_in volume.now) nodes.now }
-    requires blocks { AreListBlocks volume.now.geometry (image_in volume.now) blocks.now }
+    requires blocks { AreBlocksForTwo volume.now.geometry (image_in volume.now) blocks.now }
     ensures { IfOk result (λ found. FindsIn volume.now Children found) }
 {
     let around = around_of(alloc, &volume.kept, &volume.geometry, nodes, blocks)?;
     let mut least = None;
     for place in nodes {
+        // Nodes do not come by rising cells, and no child cell behind the least is asked for.
+        if lies_behind(&least, place.node) {
+            continue;
+        }
         let found = broken_under(volume, &around, place);
         least = lower_of(least, found);
     }

@@ -1,7 +1,7 @@
 //! The cells that blocks and nodes take.
 ghost use Rattle.std.specs.Prelude.{◌≡◌, ◌<◌, ◌≤◌, ◌↔◌, IsTrue, IfOk};
 ghost use Rattle.log_audit.specs.Kept.{image_of_kept};
-ghost use Rattle.list_audit.specs.Blocks.{AreListBlocks};
+ghost use Rattle.list_audit.specs.Blocks.{AreBlocksForTwo};
 ghost use Rattle.tree_audit.specs.Nodes.{AreNodes};
 ghost use Rattle.tree_audit.specs.Occupied.{AreOccupied, IsAlone, IsOffNodes, occupied_number};
 ghost use Rattle.tree_audit.specs.declared.occupied.TheConstants.{BLOCK_STEP};
@@ -34,7 +34,7 @@ impl OccupiedCells {
         blocks: &[ListBlock],
         nodes: &[LevelNode],
     ) -> Result<OccupiedCells, NoMemory>
-        requires blocks { AreListBlocks geometry.now (image_of_kept kept.now) blocks.now }
+        requires blocks { AreBlocksForTwo geometry.now (image_of_kept kept.now) blocks.now }
         requires nodes { AreNodes geometry.now (image_of_kept kept.now) nodes.now }
         ensures { IfOk result (λ occupied. AreOccupied geometry.now (image_of_kept kept.now) occupied) }
     {

@@ -16,7 +16,7 @@ ghost use Rattle.std.specs.Prelude.{◌<◌, ◌+◌, IfOk};
 ghost use Rattle.volume_meaning.specs.Nodes.{IsBlockOf};
 ghost use Rattle.tamper_rules.specs.Rules.{Pointers};
 ghost use Rattle.log_audit.specs.KeptVolumes.{FindsIn, FindsPartIn, KeepsBelow, image_in};
-ghost use Rattle.list_audit.specs.Blocks.{AreListBlocks};
+ghost use Rattle.list_audit.specs.Blocks.{AreBlocksForTwo};
 ghost use Rattle.tree_audit.specs.Nodes.{AreNodes};
 ghost use Rattle.tree_audit.specs.Leading.{PointerAsks};
 ghost use Rattle.tree_audit.specs.Occupied.{AreOccupied};
@@ -26,7 +26,7 @@ use crate::nodes::LevelNode;
 use crate::occupied::OccupiedCells;
 use cell_types::{Evidence, NoMemory};
 use list_audit::ListBlock;
-use log_audit::{KeptVolume, lower_of};
+use log_audit::{KeptVolume, lies_behind, lower_of};
 use std::alloc::Global;
 use tamper_rules::LOST_POINTER;
 
@@ -50,13 +50,17 @@ pub fn first_broken_pointer(
     nodes: &[LevelNode],
 ) -> Result<Option<Evidence>, NoMemory>
     requires met { KeepsBelow volume.now 10 }
-    requires blocks { AreListBlocks volume.now.geometry (image_in volume.now) blocks.now }
+    requires blocks { AreBlocksForTwo volume.now.geometry (image_in volume.now) blocks.now }
     requires nodes { AreNodes volume.now.geometry (image_in volume.now) nodes.now }
     ensures { IfOk result (λ found. FindsIn volume.now Pointers found) }
 {
     let occupied = OccupiedCells::of(alloc, &volume.kept, &volume.geometry, blocks, nodes)?;
     let mut least = None;
     for block in blocks {
+        // Blocks may meet where cells were tampered with, and they do not come by rising cells.
+        if lies_behind(&least, block.block) {
+            continue;
+        }
         least = lower_of(least, first_in_block(volume, &occupied, block));
     }
     Ok(least)

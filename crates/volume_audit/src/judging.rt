@@ -3,7 +3,7 @@ ghost use Rattle.std.specs.Prelude.{◌≡◌};
 ghost use Rattle.volume_meaning.specs.Volumes.{IsVolume};
 ghost use Rattle.log_audit.specs.Kept.{image_of_kept, count_of};
 ghost use Rattle.log_audit.specs.KeptVolumes.{HasAllCells, IsStated, KeepsBelow, image_in};
-ghost use Rattle.list_audit.specs.Blocks.{AreListBlocks};
+ghost use Rattle.list_audit.specs.Blocks.{AreBlocksForTwo, AreNumbered};
 ghost use Rattle.list_audit.specs.Owed.{IsAllOwed};
 ghost use Rattle.tree_audit.specs.Nodes.{AreNodes};
 ghost use Rattle.volume_audit.specs.Judging.{Judges, Passes, RefusesFound};
@@ -12,7 +12,7 @@ use crate::report::{AuditReport, report_of};
 use cell_types::{Evidence, Geometry, Refusal};
 use host_ports::Meter;
 use list_audit::{
-    ListBlock, OwedPostings, blocks_of, first_broken_entry, first_broken_posting,
+    ListBlock, ListBlocks, OwedPostings, blocks_for_two, first_broken_entry, first_broken_posting,
     first_broken_trail, owed_postings,
 };
 use log_audit::{KeptCells, KeptVolume, check_log};
@@ -44,9 +44,9 @@ pub(crate) fn judge<M: Meter>(
         log,
     };
     check_slots(alloc, &volume)?;
-    let blocks = blocks_of(alloc, &volume.kept, &volume.geometry)?;
+    let blocks = blocks_for_two(alloc, &volume.kept, &volume.geometry)?;
     let nodes = nodes_of(alloc, &volume.kept, &volume.geometry)?;
-    check_entries(&volume, &blocks)?;
+    check_entries(&volume, &blocks.blocks)?;
     let owed = owed_postings(alloc, &volume, meter)?;
     check_index(alloc, &volume, &blocks, &nodes, &owed)?;
     check_reach(alloc, &volume, &owed, meter)?;
@@ -69,22 +69,23 @@ fn check_slots(alloc: Global, volume: &KeptVolume) -> Result<(), Refusal>
 fn check_index(
     alloc: Global,
     volume: &KeptVolume,
-    blocks: &[ListBlock],
+    blocks: &ListBlocks,
     nodes: &[LevelNode],
     owed: &OwedPostings,
 ) -> Result<(), Refusal>
     requires stated { IsStated volume.now }
     requires count { HasAllCells volume.now }
-    requires blocks { AreListBlocks volume.now.geometry (image_in volume.now) blocks.now }
+    requires blocks { AreBlocksForTwo volume.now.geometry (image_in volume.now) blocks.now.blocks.items }
+    requires numbered { AreNumbered blocks.now.blocks.items blocks.now.numbers }
     requires nodes { AreNodes volume.now.geometry (image_in volume.now) nodes.now }
     requires owed { IsAllOwed volume.now owed.now }
     requires met { KeepsBelow volume.now 9 }
     ensures { Passes volume.now.geometry (image_in volume.now) 13 result }
 {
-    check_postings(volume, blocks, owed)?;
-    check_pointers(alloc, volume, blocks, nodes)?;
+    check_postings(alloc, volume, blocks, owed)?;
+    check_pointers(alloc, volume, &blocks.blocks, nodes)?;
     check_buckets(volume, nodes)?;
-    check_children(alloc, volume, blocks, nodes)
+    check_children(alloc, volume, &blocks.blocks, nodes)
 }
 
 /// Rules 13 to 15: that the index leads to each document, and takes no cells besides.
@@ -141,7 +142,7 @@ fn check_strays(alloc: Global, volume: &KeptVolume) -> Result<(), Refusal>
 
 /// Rule 8: what stands in blocks is in order.
 fn check_entries(volume: &KeptVolume, blocks: &[ListBlock]) -> Result<(), Refusal>
-    requires blocks { AreListBlocks volume.now.geometry (image_in volume.now) blocks.now }
+    requires blocks { AreBlocksForTwo volume.now.geometry (image_in volume.now) blocks.now }
     requires met { KeepsBelow volume.now 8 }
     ensures { Passes volume.now.geometry (image_in volume.now) 9 result }
 {
@@ -150,17 +151,19 @@ fn check_entries(volume: &KeptVolume, blocks: &[ListBlock]) -> Result<(), Refusa
 
 /// Rule 9: the postings in blocks are those of documents.
 fn check_postings(
+    alloc: Global,
     volume: &KeptVolume,
-    blocks: &[ListBlock],
+    blocks: &ListBlocks,
     owed: &OwedPostings,
 ) -> Result<(), Refusal>
     requires stated { IsStated volume.now }
-    requires blocks { AreListBlocks volume.now.geometry (image_in volume.now) blocks.now }
+    requires blocks { AreBlocksForTwo volume.now.geometry (image_in volume.now) blocks.now.blocks.items }
+    requires numbered { AreNumbered blocks.now.blocks.items blocks.now.numbers }
     requires owed { IsAllOwed volume.now owed.now }
     requires met { KeepsBelow volume.now 9 }
     ensures { Passes volume.now.geometry (image_in volume.now) 10 result }
 {
-    refuse(first_broken_posting(volume, blocks, owed))
+    refuse(first_broken_posting(alloc, volume, blocks, owed)?)
 }
 
 /// Rule 10: pointers lead where they should.
@@ -170,7 +173,7 @@ fn check_pointers(
     blocks: &[ListBlock],
     nodes: &[LevelNode],
 ) -> Result<(), Refusal>
-    requires blocks { AreListBlocks volume.now.geometry (image_in volume.now) blocks.now }
+    requires blocks { AreBlocksForTwo volume.now.geometry (image_in volume.now) blocks.now }
     requires nodes { AreNodes volume.now.geometry (image_in volume.now) nodes.now }
     requires met { KeepsBelow volume.now 10 }
     ensures { Passes volume.now.geometry (image_in volume.now) 11 result }
@@ -196,7 +199,7 @@ fn check_children(
     blocks: &[ListBlock],
     nodes: &[LevelNode],
 ) -> Result<(), Refusal>
-    requires blocks { AreListBlocks volume.now.geometry (image_in volume.now) blocks.now }
+    requires blocks { AreBlocksForTwo volume.now.geometry (image_in volume.now) blocks.now }
     requires nodes { AreNodes volume.now.geometry (image_in volume.now) nodes.now }
     requires met { KeepsBelow volume.now 12 }
     ensures { Passes volume.now.geometry (image_in volume.now) 13 result }

@@ -1,7 +1,8 @@
 -- The block lies on the device; the places of a block that was followed; a place from which no pointer leads, one from which a pointer leads, and all of them.
-use Rattle.std.proofs.Common.{◌≤◌, ◌+◌, arith}
+use Rattle.std.proofs.Common.{◌≤◌, ◌+◌, ◌∙◌, refl, arith}
 use Rattle.list_audit.proofs.Closing.{block_inside, no_target, one_more, turn_done}
 use Rattle.list_audit.proofs.Following.{followed_more, passed_before, passed_behind}
+use Rattle.list_audit.proofs.Taking.{adds_by}
 use Rattle.list_audit.proofs.blocks.add_targets.Goals as goal
 
 pub overflow_add-from : goal.overflow_add-from
@@ -18,6 +19,7 @@ behind_pointers_of-behind-requires c =
 
 pub loop-pointer-init : goal.loop-pointer-init
 loop-pointer-init c = (
+  refl,
   passed_before c.requires.closed c.requires.here c.requires.followed c.first_pointer_of-pointer.ensures.passed,
   c.requires.numbered,
   c.requires.followed,
@@ -25,23 +27,25 @@ loop-pointer-init c = (
 
 pub loop-pointer-preserved-in_default : goal.loop-pointer-preserved-in_default
 loop-pointer-preserved-in_default c = (
-  no_target c.loop-pointer.invariant.0 c.in_default.ensures,
-  c.loop-pointer.invariant.1,
+  c.loop-pointer.invariant.0,
+  no_target c.loop-pointer.invariant.1 c.in_default.ensures,
   c.loop-pointer.invariant.2,
+  c.loop-pointer.invariant.3,
 )
 
 pub loop-pointer-preserved : goal.loop-pointer-preserved
-loop-pointer-preserved c = (
-  one_more c.loop-pointer.invariant.0 (omega (arith, c.loop-pointer.auto.pointer, c.first_pointer_of-pointer.ensures.from))
-      (omega (arith, c.loop-pointer-test.true, c.behind_pointers_of-behind.ensures.most)) c.in-Some.ensures c.in_ok-add.ensures.adds,
+loop-pointer-preserved c = let adds = adds_by c.loop-pointer.invariant.0 c.in_ok-add.ensures.adds in (
+  c.add.ensures.mode ∙ c.loop-pointer.invariant.0,
+  one_more c.loop-pointer.invariant.1 (omega (arith, c.loop-pointer.auto.pointer, c.first_pointer_of-pointer.ensures.from))
+      (omega (arith, c.loop-pointer-test.true, c.behind_pointers_of-behind.ensures.most)) c.in-Some.ensures adds,
   c.in_ok-add.ensures.numbered,
-  followed_more c.in_ok-add.ensures.adds c.loop-pointer.invariant.2,
+  followed_more adds c.loop-pointer.invariant.3,
 )
 
 pub returns-clause-closed : goal.returns-clause-closed
-returns-clause-closed c = turn_done (passed_behind c.loop-pointer.invariant.0 (omega (arith, c.loop-pointer-test.false)) c.loop-pointer.invariant.2
+returns-clause-closed c = turn_done (passed_behind c.loop-pointer.invariant.1 (omega (arith, c.loop-pointer-test.false)) c.loop-pointer.invariant.3
     c.behind_pointers_of-behind.ensures.passed) (omega arith)
 
 pub returns-clause-leads : goal.returns-clause-leads
-returns-clause-leads c = (passed_behind c.loop-pointer.invariant.0 (omega (arith, c.loop-pointer-test.false)) c.loop-pointer.invariant.2
+returns-clause-leads c = (passed_behind c.loop-pointer.invariant.1 (omega (arith, c.loop-pointer-test.false)) c.loop-pointer.invariant.3
     c.behind_pointers_of-behind.ensures.passed).leads

@@ -1,4 +1,5 @@
 -- The pointer places before this turn's were followed.
+use Rattle.std.proofs.Common.{◌≡◌}
 use Rattle.log_audit.specs.Kept.{image_of_kept}
 use Rattle.list_audit.specs.Blocks.{AreNumbered}
 use Rattle.list_audit.specs.Following.{AreFollowed}
@@ -6,6 +7,7 @@ use Rattle.list_audit.proofs.Closing.{IsFollowed}
 use Rattle.list_audit.proofs.blocks.add_targets.Given as goal
 
 abbrev pub invariant-loop-pointer : goal.invariant-loop-pointer
-invariant-loop-pointer l = IsFollowed l.geometry (image_of_kept l.kept) l.turn l.from l.pointer l.found.blocks.items
+invariant-loop-pointer l = (l.found.for_two ≡ l.fn.found.for_two)
+    × IsFollowed l.fn.found.for_two l.geometry (image_of_kept l.kept) l.turn l.from l.pointer l.found.blocks.items
     × AreNumbered l.found.blocks.items l.found.numbers
-    × AreFollowed l.geometry (image_of_kept l.kept) l.followed.numbers l.found.blocks.items
+    × AreFollowed l.fn.found.for_two l.geometry (image_of_kept l.kept) l.followed.numbers l.found.blocks.items

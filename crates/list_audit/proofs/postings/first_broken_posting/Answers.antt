@@ -1,28 +1,36 @@
--- One block more, and all of them.
-use Rattle.std.proofs.Common.{arith}
-use Rattle.std.proofs.lemmas.Option.{slice_get-get_or}
+-- By two lists of each block, and by all.
+use Rattle.std.proofs.Common.{List, sym, subst, arith}
 use Rattle.log_audit.specs.KeptVolumes.{image_in}
-use Rattle.tamper_rules.specs.Rules.{Postings}
-use Rattle.list_audit.proofs.EachBlock.{one_block, every_block}
+use Rattle.tamper_rules.specs.Rules.{Entries, Postings}
+use Rattle.log_audit.specs.Least.{FindsPart}
+use Rattle.list_audit.specs.Blocks.{AreListBlocks, AreOfLists, AskedOf}
+use Rattle.list_audit.specs.declared.listed.ListBlock.{ListBlock}
+use Rattle.list_audit.proofs.EachBlock.{all_decide, decided}
+use Rattle.list_audit.proofs.Sharing.{two_owe}
 use Rattle.list_audit.specs.Owing.{BlockOwes}
 use Rattle.list_audit.proofs.Owing.{rule_owes, block_owes}
 use Rattle.list_audit.proofs.postings.first_broken_posting.Goals as goal
 
-pub first_fake_in-requires-clause-block : goal.first_fake_in-requires-clause-block
-first_fake_in-requires-clause-block c = c.requires.blocks.each c.loop-block.block-index _
-    (slice_get-get_or c.args.blocks.now c.loop-block.block-index (record { list = 0; block = 0 }) (omega arith))
+pub least_fake-requires-clause-blocks : goal.least_fake-requires-clause-blocks
+least_fake-requires-clause-blocks c = let volume = c.args.volume.now in
+    subst (AreOfLists volume.geometry (image_in volume)) (sym c.deref.ensures.value) c.requires.blocks.each
 
-pub loop-block-preserved : goal.loop-block-preserved
-loop-block-preserved c =
-    let g = c.args.volume.now.geometry in let image = image_in c.args.volume.now in
-    one_block g image Postings c.args.blocks.now (BlockOwes g image) c.loop-block.block-index _ _ _ _ c.loop-block.invariant
-    (slice_get-get_or c.args.blocks.now c.loop-block.block-index (record { list = 0; block = 0 }) (omega arith))
-    c.first_fake_in.ensures c.lower_of-least.ensures
+pub least_fake-requires-2-clause-blocks : goal.least_fake-requires-2-clause-blocks
+least_fake-requires-2-clause-blocks c = let volume = c.args.volume.now in
+    subst (AreOfLists volume.geometry (image_in volume)) (sym c.deref-2.ensures.value) c.in_ok-all.ensures.each
+
+pub returns-then-are_decided : goal.returns-then-are_decided
+returns-then-are_decided c = let volume = c.args.volume.now in
+    let g = volume.geometry in let image = image_in volume in let rows : List ListBlock = c.args.blocks.now.blocks.items in
+    decided g image Postings rows (BlockOwes g image) c.requires.blocks.each
+    (two_owe g image rows c.requires.blocks (c.are_decided.ensures c.if-are_decided.true) (c.requires.met Entries (omega arith))) _
+    (subst (λ (blocks : List ListBlock). FindsPart g image Postings (AskedOf blocks (BlockOwes g image)) c.least_fake.result)
+    c.deref.ensures.value c.least_fake.ensures)
+    (rule_owes g image volume.log c.requires.stated volume.is_log) (block_owes g image volume.log c.requires.stated volume.is_log)
 
 pub returns : goal.returns
 returns c = let volume = c.args.volume.now in
     let g = volume.geometry in let image = image_in volume in
-    every_block g image Postings c.args.blocks.now (BlockOwes g image) c.loop-block.block-index _
-    c.requires.blocks c.loop-block.invariant
-    (omega (arith, c.loop-block-test.false)) (rule_owes g image volume.log c.requires.stated volume.is_log)
-    (block_owes g image volume.log c.requires.stated volume.is_log)
+    let all : AreListBlocks g image c.deref-2.result.now = subst (AreListBlocks g image) (sym c.deref-2.ensures.value) c.in_ok-all.ensures in
+    decided g image Postings c.deref-2.result.now (BlockOwes g image) all.each (all_decide (BlockOwes g image) all) _ c.least_fake-2.ensures
+    (rule_owes g image volume.log c.requires.stated volume.is_log) (block_owes g image volume.log c.requires.stated volume.is_log)

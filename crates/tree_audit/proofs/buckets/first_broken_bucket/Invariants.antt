@@ -1,11 +1,13 @@
 -- The least finding of the nodes before this turn's.
+use Rattle.std.specs.Prelude.{ℕ}
 use Rattle.log_audit.specs.KeptVolumes.{image_in}
 use Rattle.tamper_rules.specs.Rules.{Buckets}
 use Rattle.log_audit.specs.Least.{FindsPart}
 use Rattle.log_audit.proofs.Parts.{AskedBelow}
-use Rattle.tree_audit.proofs.Judging.{AsksAt}
+use Rattle.tree_audit.specs.Buckets.{AsksBucket}
+use Rattle.tree_audit.proofs.EachNode.{NodeAt}
 use Rattle.tree_audit.proofs.buckets.first_broken_bucket.Given as goal
 
 abbrev pub invariant-loop-place : goal.invariant-loop-place
 invariant-loop-place l = FindsPart l.volume.geometry (image_in l.volume) Buckets
-    (AskedBelow (AsksAt l.volume.geometry (image_in l.volume) l.nodes) l.place-index) l.least
+    (AskedBelow (NodeAt l.nodes (λ (level : ℕ). AsksBucket l.volume.geometry (image_in l.volume))) l.place-index) l.least

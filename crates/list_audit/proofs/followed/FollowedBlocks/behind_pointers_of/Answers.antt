@@ -8,7 +8,7 @@ use Rattle.list_audit.proofs.followed.FollowedBlocks.behind_pointers_of.Goals as
 pub returns-clause-passed : goal.returns-clause-passed
 returns-clause-passed c = λ p low high.
     let l = c.args.listed.now.list in let block = c.args.listed.now.block in
-    let after = c.in-Some.after in let found = c.in-Some.ensures in
+    let after = c.in-Some.after in let found = c.in-Some.ensures.some in
     let is = c.number-next.ensures in
     let step = after - (c.number-next.result + 1) in
     let number : after ≡ block_number l (block + 1 + step) = omega (arith, is, found.0) in

@@ -5,7 +5,7 @@ use Rattle.log_audit.specs.Least.{FindsPart}
 use Rattle.log_audit.proofs.Parts.{AskedBelow}
 use Rattle.list_audit.proofs.EachBlock.{BlockAt}
 use Rattle.list_audit.specs.Owing.{BlockOwes}
-use Rattle.list_audit.proofs.postings.first_broken_posting.Given as goal
+use Rattle.list_audit.proofs.postings.least_fake.Given as goal
 
 abbrev pub invariant-loop-block : goal.invariant-loop-block
 invariant-loop-block l = FindsPart l.volume.geometry (image_in l.volume) Postings
