@@ -1,5 +1,5 @@
 -- A look at a device does not speak of the loan by which it was made.
-use Rattle.std.proofs.Common.{◌≡◌, ◌≤◌, ◌+◌, ℕ, List, Some, None, Option, Result, Ok, Err, inl, inr, refl, ⊎_elim}
+use Rattle.std.proofs.Common.{◌≡◌, ◌≤◌, ◌+◌, ℕ, List, [], Some, None, Option, Result, Ok, Err, inl, inr, refl, ⊎_elim}
 use Rattle.cell_types.specs.Image.{Image}
 use Rattle.cell_types.specs.Layout.{Layout}
 use Rattle.cell_types.specs.declared.refusal.Evidence.{Evidence}
@@ -8,8 +8,8 @@ use Rattle.cell_types.specs.declared.refusal.Refusal.TheVariants as refusals
 use Rattle.volume_meaning.specs.Slots.{cells_for}
 use Rattle.host_ports.specs.Sinks.{SinkState}
 use Rattle.worm_device.specs.State.{DeviceState}
-use Rattle.worm_device.specs.Views.{Viewed, seen_directly}
-use Rattle.worm_device.proofs.Resting.{rested_since, rests_of}
+use Rattle.worm_device.specs.Views.{ViewState, Viewed, seen_directly}
+use Rattle.read_cache.proofs.Through.{viewed_below, viewed_through}
 use Rattle.commit_record.specs.States.{AsksSlotBelow, ShowsBroken}
 use Rattle.document_store.specs.Looks.{BodyEnds, GotPart, HasPart, LookFails, NamesDocument, of_document, of_state}
 use Rattle.document_store.specs.declared.part.Part.{Part}
@@ -20,28 +20,18 @@ use Rattle.record_query.specs.Matching.{SlotEnds}
 use Rattle.record_query.specs.Reaching.{PutsFromDevice}
 use Rattle.record_query.specs.declared.found.Match.{Match}
 
+-- a view as it is seen by way of these loans
+abbrev pub lent : List ℕ → ViewState → ViewState
+lent loans s = record s { loans = loans }
+
 module _ (old new : DeviceState) (a b : ℕ) where
   -- what every call keeps
   pub viewed_by_any : Viewed (seen_directly old a) (seen_directly new b)
       → Viewed (seen_directly old 0) (seen_directly new 0)
   viewed_by_any v =
-      let rests = rests_of v in
-      record {
-        called = v.called;
-        cells = v.cells;
-        image = v.image;
-        planned = v.planned;
-        owners = v.owners;
-        lower = v.lower;
-        fresh = v.fresh;
-        loans = refl;
-        quiet = rested_since (record {
-          later = rests.later;
-          shown = rests.shown;
-          lower = rests.lower;
-          below = rests.below;
-        });
-      }
+      let was = lent [] (seen_directly old 0) in
+      let now = lent [] (seen_directly new 0) in
+      viewed_through 0 0 was now refl (viewed_below a b was now v)
 
   module _ (g : Layout) (n : ℕ) where
     shows : {image : Image} {e : Evidence} → ShowsBroken g (seen_directly old a) (seen_directly new b) image e

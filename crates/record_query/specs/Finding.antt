@@ -19,7 +19,7 @@ use Rattle.tamper_rules.specs.declared.numbers.TheConstants.{BROKEN_DOCUMENT}
 use Rattle.worm_device.specs.Calls.{Called}
 use Rattle.worm_device.specs.Counts.{Rose, IsStill}
 use Rattle.worm_device.specs.State.{DeviceState}
-use Rattle.recovery_engine.specs.Settling.{IsSettlingRule, SettleEnds, Settles, SettlesFirst}
+use Rattle.recovery_engine.specs.Settling.{IsSettlingRule, SettleEnds, SettlesFirst}
 use Rattle.posting_list.specs.Naming.{IsListRule}
 use Rattle.record_query.specs.declared.finding.TheConstants.{CELL_READS, FIND_READS, TERM_READS}
 use Rattle.record_query.specs.declared.found.Match.{Match}

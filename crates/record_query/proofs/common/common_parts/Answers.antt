@@ -1,9 +1,9 @@
 -- The loan is not spoken of.
-use Rattle.std.proofs.Common.{ℕ, rules, subst}
+use Rattle.std.proofs.Common.{ℕ, [], ◌∷◌, rules, subst}
 use Rattle.worm_device.specs.Views.{seen_directly}
 use Rattle.posting_list.specs.Joins.{TermsGather, TermsGatherReads}
 use Rattle.record_query.specs.Reaching.{reach_of}
-use Rattle.record_query.proofs.Gathered.{gathers_by_any, gathers_then, reads_by_any, reads_then}
+use Rattle.record_query.proofs.Gathered.{gathers_lent, gathers_then, reads_lent, reads_then}
 use Rattle.record_query.proofs.Loans.{viewed_by_any}
 use Rattle.record_query.proofs.common.common_parts.Goals as goal
 
@@ -16,9 +16,10 @@ returns-clause-viewed g c =
 
 pub returns-clause-gathers : goal.returns-clause-gathers
 returns-clause-gathers g c =
-    let ends = gathers_by_any (reach_of c.args.ready.now) c.args.sought.now.terms.items
-    (g.D.Device.state c.new-2.result.device.now) (g.D.Device.state c.common_kept.new.view.device.now)
-    c.new-2.result.device.ghost_name c.common_kept.new.view.device.ghost_name c.common_kept.result
+    let ends = gathers_lent (reach_of c.args.ready.now) c.args.sought.now.terms.items
+    (seen_directly (g.D.Device.state c.new-2.result.device.now) 0)
+    (seen_directly (g.D.Device.state c.common_kept.new.view.device.now) 0) (c.new-2.result.device.ghost_name ∷ [])
+    (c.common_kept.new.view.device.ghost_name ∷ []) (0 ∷ []) (0 ∷ []) c.common_kept.result
     (subst (λ (pool : ℕ). TermsGather (record {
       volume = c.args.ready.now.volume;
       horizon = c.args.ready.now.horizon;
@@ -31,9 +32,10 @@ returns-clause-gathers g c =
 
 pub returns-clause-reads : goal.returns-clause-reads
 returns-clause-reads g c =
-    let reads = reads_by_any (reach_of c.args.ready.now) c.args.sought.now.terms.items
-    (g.D.Device.state c.new-2.result.device.now) (g.D.Device.state c.common_kept.new.view.device.now)
-    c.new-2.result.device.ghost_name c.common_kept.new.view.device.ghost_name
+    let reads = reads_lent (reach_of c.args.ready.now) c.args.sought.now.terms.items
+    (seen_directly (g.D.Device.state c.new-2.result.device.now) 0)
+    (seen_directly (g.D.Device.state c.common_kept.new.view.device.now) 0) (c.new-2.result.device.ghost_name ∷ [])
+    (c.common_kept.new.view.device.ghost_name ∷ []) (0 ∷ []) (0 ∷ [])
     (subst (λ (pool : ℕ). TermsGatherReads (record {
       volume = c.args.ready.now.volume;
       horizon = c.args.ready.now.horizon;
