@@ -1,5 +1,5 @@
 -- Which buckets are true ones, and what all nodes ask.
-use Rattle.std.proofs.Common.{◌≡◌, ◌<◌, ◌≤◌, ◌+◌, ⊎_elim, inl, inr, ℕ, List, length, Option, Some, None, sym, ◌∙◌, subst, ap, arith}
+use Rattle.std.proofs.Common.{◌≡◌, ◌<◌, ◌≤◌, ◌+◌, inl, inr, ℕ, List, length, Option, Some, sym, ◌∙◌, subst, ap, arith}
 use Rattle.std.specs.Prelude.{slice_get}
 use Rattle.std.proofs.lemmas.Option.{slice_get_within}
 use Rattle.sha2.specs.Sha256.{sha256}
@@ -14,10 +14,9 @@ use Rattle.volume_meaning.specs.Volumes.{Holds}
 use Rattle.volume_meaning.proofs.Holding.{one_record_holds}
 use Rattle.volume_meaning.proofs.OneDocument.{one_document}
 use Rattle.tamper_rules.specs.Rules.{BucketRule, Buckets, IsPlace, IsTrueBucket}
-use Rattle.log_audit.specs.Least.{FindsPart}
-use Rattle.log_audit.proofs.OneMore.{below_or_at}
-use Rattle.log_audit.proofs.Parts.{AskedBelow}
-use Rattle.tree_audit.specs.Buckets.{AsksBucket, IsBehind}
+use Rattle.log_audit.specs.Least.{FindsPart, LiesBehind}
+use Rattle.log_audit.proofs.Parts.{AskedBelow, part_behind}
+use Rattle.tree_audit.specs.Buckets.{AsksBucket}
 use Rattle.tree_audit.specs.Documents.{HasDigest}
 use Rattle.tree_audit.specs.Nodes.{AreNodes}
 use Rattle.tree_audit.specs.Paths.{GoesBy}
@@ -96,17 +95,7 @@ same_node g image nodes i n here cell asks m there =
 
 -- a node behind what was found asks nothing of the cells before that
 pub node_behind : (g : Layout) (image : Image) (nodes : List LevelNode) (i : ℕ) (n : LevelNode) → slice_get nodes i ≡ Some n → (least : Option Evidence)
-    → FindsPart g image Buckets (AskedBelow (AsksAt g image nodes) i) least → IsBehind least n.node
+    → FindsPart g image Buckets (AskedBelow (AsksAt g image nodes) i) least → LiesBehind least n.node
     → FindsPart g image Buckets (AskedBelow (AsksAt g image nodes) (i + 1)) least
-node_behind g image nodes i n here None finds behind = absurd behind
-node_behind g image nodes i n here (Some e) finds behind = record {
-  number = finds.number;
-  place = finds.place;
-  stands = finds.stands;
-  broken = λ each. finds.broken (λ part less. each part (omega (arith, less)));
-  below = λ cell less written part before. ⊎_elim
-      (λ (earlier : part < i). finds.below cell less written part earlier)
-      (λ (same : part ≡ i). subst (λ (k : ℕ). AsksAt g image nodes k cell) (sym same)
-      (same_node g image nodes i n here cell (λ x low at. absurd (omega (arith, at, less, behind)))))
-      (below_or_at part i before);
-}
+node_behind g image nodes i n here least finds behind = part_behind g image Buckets (AsksAt g image nodes) i n.node least finds behind
+    (λ cell less. same_node g image nodes i n here cell (λ x low at. absurd (omega (arith, at, less))))

@@ -2,7 +2,6 @@
 use Rattle.std.specs.Prelude.{◌≡◌, ◌<◌, ◌+◌, ℕ, List, Option, Some, None}
 use Rattle.cell_types.specs.Image.{Image}
 use Rattle.cell_types.specs.Layout.{Layout}
-use Rattle.cell_types.specs.declared.refusal.Evidence.{Evidence}
 use Rattle.cell_types.specs.declared.record_cell.RecordCell.TheVariants as records
 use Rattle.volume_meaning.specs.Volumes.{Holds}
 use Rattle.tamper_rules.specs.Rules.{IsTrueBucket}
@@ -12,11 +11,6 @@ use Rattle.volume_meaning.specs.declared.held_bucket.HeldBucket.{HeldBucket}
 abbrev pub BucketAnswers : Image → ℕ → Option HeldBucket → Type 0
 BucketAnswers image at None = (slot : ℕ) (fingerprint : List ℕ) → Holds image at (records.Bucket slot fingerprint) → ⊥
 BucketAnswers image at (Some b) = Holds image at (records.Bucket b.slot b.fingerprint)
-
--- the cell lies behind what was found
-abbrev pub IsBehind : Option Evidence → ℕ → Type 0
-IsBehind None cell = ⊥
-IsBehind (Some e) cell = e.cell < cell
 
 -- what rule 11 asks of a cell on account of this node
 abbrev pub AsksBucket : Layout → Image → ℕ → ℕ → Type 0

@@ -3,7 +3,7 @@ ghost use Rattle.std.specs.Prelude.{◌<◌, ◌+◌, ◌^◌, ◌↔◌, IsTrue
 ghost use Rattle.volume_meaning.specs.Nodes.{IsNode};
 ghost use Rattle.tamper_rules.specs.Rules.{Buckets, Documents, IsTrueBucket};
 ghost use Rattle.log_audit.specs.KeptVolumes.{FindsIn, FindsPartIn, HasAllCells, IsStated, KeepsRule, image_in};
-ghost use Rattle.tree_audit.specs.Buckets.{AsksBucket, IsBehind};
+ghost use Rattle.tree_audit.specs.Buckets.{AsksBucket};
 ghost use Rattle.tree_audit.specs.Nodes.{AreNodes};
 
 use crate::documents::identifier_digest;
@@ -11,7 +11,7 @@ use crate::looks::bucket_at;
 use crate::nodes::LevelNode;
 use crate::paths::goes_by;
 use cell_types::Evidence;
-use log_audit::{KeptVolume, lower_of};
+use log_audit::{KeptVolume, lies_behind, lower_of};
 use tamper_rules::FAKE_BUCKET;
 use volume_meaning::NODE_BUCKETS;
 
@@ -33,16 +33,6 @@ pub fn first_broken_bucket(volume: &KeptVolume, nodes: &[LevelNode]) -> Option<E
         least = lower_of(least, found);
     }
     least
-}
-
-/// Whether a cell lies behind what was found. Nothing that is broken there is the least.
-fn lies_behind(found: &Option<Evidence>, cell: u32) -> bool
-    ensures { IsTrue result → IsBehind found.now cell }
-{
-    let Some(least) = found else {
-        return false;
-    };
-    least.cell < cell
 }
 
 /// The first bucket of a node at which rule 11 is broken.

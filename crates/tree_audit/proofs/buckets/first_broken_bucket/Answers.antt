@@ -17,7 +17,7 @@ loop-place-preserved-then-lies_behind c =
     let i = c.loop-place.place-index in
     let none : LevelNode = record { level = 0; node = 0 } in
     let here : slice_get nodes i ≡ Some (get_or nodes i none) = slice_get-get_or nodes i none (omega (arith, c.loop-place-test.true)) in
-    node_behind g image nodes i (get_or nodes i none) here c.loop-place.least c.loop-place.invariant (c.lies_behind.ensures c.if-lies_behind.true)
+    node_behind g image nodes i (get_or nodes i none) here c.loop-place.least c.loop-place.invariant (c.lies_behind.ensures.0 c.if-lies_behind.true)
 
 pub loop-place-preserved : goal.loop-place-preserved
 loop-place-preserved c =
