@@ -1,5 +1,5 @@
 //! Rule 8: what stands in the places of blocks.
-ghost use Rattle.std.specs.Prelude.{◌<◌, ◌≤◌, ◌+◌, ◌↔◌, ◌^◌, IsTrue};
+ghost use Rattle.std.specs.Prelude.{◌<◌, ◌≤◌, ◌+◌, ◌↔◌, ◌^◌, ◌⊎◌, IsTrue};
 ghost use Rattle.tamper_rules.specs.Rules.{Entries, HoldsInOrder};
 ghost use Rattle.volume_meaning.specs.Nodes.{IsBlockOf};
 ghost use Rattle.log_audit.specs.Kept.{image_of_kept};
@@ -46,6 +46,10 @@ fn first_in_block(kept: &KeptCells, geometry: &Geometry, listed: &ListBlock) -> 
     let _cells = geometry.cells();
     let block = listed.block;
     for place in 0..BLOCK_CELLS {
+        // Nothing is asked of pointers, nearly half of the places.
+        if FIRST_POINTER <= place && place < BEHIND_POINTERS {
+            continue;
+        }
         let cell = block + place;
         let Some(found) = kept.at(cell) else {
             continue;
@@ -61,17 +65,14 @@ fn first_in_block(kept: &KeptCells, geometry: &Geometry, listed: &ListBlock) -> 
     None
 }
 
-/// Whether a place of a block, where it is written, keeps rule 8.
+/// Whether a place of a block before its pointers or behind them, where it is written, keeps rule 8.
 fn keeps_entry_rule(kept: &KeptCells, block: u32, place: u32) -> bool
     requires room { block + 256 ≤ 2 ^ 31 }
-    requires place { place < 256 }
+    requires place { place < 128 ⊎ 248 ≤ place }
     ensures { IsTrue result ↔ KeepsEntryRule (image_of_kept kept.now) block place }
 {
     if place >= BEHIND_POINTERS {
         return false;
-    }
-    if place >= FIRST_POINTER {
-        return true;
     }
     is_in_order(kept, block, place)
 }
