@@ -151,48 +151,48 @@ module _ (old new : DeviceState) (result : Result Ready Refusal) (tells : old.te
   put_there (Done start length bytes journal) j q h is =
       absurd (⊎_elim (λ (a : (j ≡ 1) × ⊥). a.1) (λ (b : (j ≡ 2) × ⊥). b.1) h)
 
+  -- a blank cell stays so where neither the slot's ending nor an entry of its journal is put there
+  blank_stays : (cell : ℕ) → old.image cell ≡ None
+      → ((q : Put) → q.at ≡ cell → 1 ≤ end_phases writes.state
+      → (q.at ≡ outcome_at slot) ⊎ (q.at ≡ done_at slot) → ⊥)
+      → ((q : Put) → q.at ≡ cell → 1 ≤ end_phases writes.state → IsAsked old between slot q → ⊥)
+      → new.image cell ≡ None
+  blank_stays cell blank ends asks = left_blank (new.image cell) (λ value stands. ⊎_elim
+      (λ (stood : old.image cell ≡ Some value). none-some value (sym blank ∙ stood))
+      (λ (is : IsPut (IsInFirst (settle_plan between slot writes.state) 3) old.image cell value).
+      let some = none_ended between slot writes.state is.planned.0 is.put is.planned.2 in
+      ⊎_elim (ends is.put is.here some) (asks is.put is.here some)
+      (put_there writes.state is.planned.0 is.put is.planned.2 refl))
+      (writes.only still cell value stands))
+
   -- the slot that it ends was taken
-  slot_taken : (j : ℕ) (q : Put) → settle_plan between slot writes.state j q → IsWritten old.image (reserve_at slot)
-  slot_taken j q h =
-      let taken = (writes.ending (none_ended between slot writes.state j q h)).horizon.below slot refl in
+  slot_taken : 1 ≤ end_phases writes.state → IsWritten old.image (reserve_at slot)
+  slot_taken some =
+      let taken = (writes.ending some).horizon.below slot refl in
       record { found = taken.found; stands = sym (writes.quiet still (reserve_at slot)) ∙ taken.stands }
 
-  -- so the outcome cell of a slot of which nothing has come stays blank
-  pub outcome_stays : (layout : Layout) (n : ℕ) → IsVolume new.cells new.image layout → IsUnused layout old.image n
-      → new.image (outcome_at n) ≡ None
-  outcome_stays layout n volume unused = left_blank (new.image (outcome_at n)) (λ value stands. ⊎_elim
-      (λ (stood : old.image (outcome_at n) ≡ Some value). none-some value (sym unused.outcome ∙ stood))
-      (λ (is : IsPut (IsInFirst (settle_plan between slot writes.state) 3) old.image (outcome_at n) value).
-      let other : slot ≡ n → ⊥ =
-      not_ended old.image slot n (slot_taken is.planned.0 is.put is.planned.2) unused.reserve in
-      ⊎_elim
-      (λ (log : (is.put.at ≡ outcome_at slot) ⊎ (is.put.at ≡ done_at slot)). ⊎_elim
-      (λ (a : is.put.at ≡ outcome_at slot). other (omega (arith, a, is.here)))
-      (λ (b : is.put.at ≡ done_at slot). absurd (omega (arith, b, is.here)))
-      log)
-      (λ (asked : IsAsked old between slot is.put).
-      let same : asked.ending.layout ≡ layout =
-      one_layout asked.ending.layout layout (volume_on writes.stands asked.ending.volume) volume in
-      absurd (omega (arith, asked_low old between slot is.put asked, is.here, unused.slot, ap lists_at same)))
-      (put_there writes.state is.planned.0 is.put is.planned.2 refl))
-      (writes.only still (outcome_at n) value stands))
+  module _ (layout : Layout) (n : ℕ) (volume : IsVolume new.cells new.image layout)
+      (unused : IsUnused layout old.image n) where
+    -- no journal asks for a cell of the log
+    in_log : (cell : ℕ) → cell < lists_at layout → (q : Put) → q.at ≡ cell → 1 ≤ end_phases writes.state
+        → IsAsked old between slot q → ⊥
+    in_log cell low q here some asked =
+        let same : asked.ending.layout ≡ layout =
+        one_layout asked.ending.layout layout (volume_on writes.stands asked.ending.volume) volume in
+        omega (arith, asked_low old between slot q asked, here, low, ap lists_at same)
 
-  -- and so does its reserve cell
-  pub reserve_stays : (layout : Layout) (n : ℕ) → IsVolume new.cells new.image layout → IsUnused layout old.image n
-      → new.image (reserve_at n) ≡ None
-  reserve_stays layout n volume unused = left_blank (new.image (reserve_at n)) (λ value stands. ⊎_elim
-      (λ (stood : old.image (reserve_at n) ≡ Some value). none-some value (sym unused.reserve ∙ stood))
-      (λ (is : IsPut (IsInFirst (settle_plan between slot writes.state) 3) old.image (reserve_at n) value). ⊎_elim
-      (λ (log : (is.put.at ≡ outcome_at slot) ⊎ (is.put.at ≡ done_at slot)). ⊎_elim
-      (λ (a : is.put.at ≡ outcome_at slot). absurd (omega (arith, a, is.here)))
-      (λ (b : is.put.at ≡ done_at slot). absurd (omega (arith, b, is.here)))
-      log)
-      (λ (asked : IsAsked old between slot is.put).
-      let same : asked.ending.layout ≡ layout =
-      one_layout asked.ending.layout layout (volume_on writes.stands asked.ending.volume) volume in
-      absurd (omega (arith, asked_low old between slot is.put asked, is.here, unused.slot, ap lists_at same)))
-      (put_there writes.state is.planned.0 is.put is.planned.2 refl))
-      (writes.only still (reserve_at n) value stands))
+    -- so the outcome cell of a slot of which nothing has come stays blank
+    pub outcome_stays : new.image (outcome_at n) ≡ None
+    outcome_stays = blank_stays (outcome_at n) unused.outcome
+        (λ q here some log.
+        let other : slot ≡ n → ⊥ = not_ended old.image slot n (slot_taken some) unused.reserve in
+        grind (arith, log, here, other))
+        (in_log (outcome_at n) (omega (arith, unused.slot)))
+
+    -- and so does its reserve cell
+    pub reserve_stays : new.image (reserve_at n) ≡ None
+    reserve_stays = blank_stays (reserve_at n) unused.reserve (λ q here some log. grind (arith, log, here))
+        (in_log (reserve_at n) (omega (arith, unused.slot)))
 
 -- Where it ends well, so does each cell behind the edge.
 module _ (old new : DeviceState) (r : Ready) (tells : old.tells ≡ true)
@@ -219,22 +219,11 @@ module _ (old new : DeviceState) (r : Ready) (tells : old.tells ≡ true)
       ready.edge
 
   pub behind_stays : (cell : ℕ) → r.edge ≤ cell → old.image cell ≡ None → new.image cell ≡ None
-  behind_stays cell behind blank = left_blank (new.image cell) (λ value stands. ⊎_elim
-      (λ (stood : old.image cell ≡ Some value). none-some value (sym blank ∙ stood))
-      (λ (is : IsPut (IsInFirst (settle_plan end.between end.slot end.state) 3) old.image cell value).
-      let last = end.below (none_ended end.between end.slot end.state is.planned.0 is.put is.planned.2) in
+  behind_stays cell behind blank =
       let bounds = settles.ends.0 in
-      ⊎_elim
-      (λ (log : (is.put.at ≡ outcome_at end.slot) ⊎ (is.put.at ≡ done_at end.slot)). ⊎_elim
-      (λ (a : is.put.at ≡ outcome_at end.slot).
-      absurd (omega (arith, a, behind, is.here, bounds.from, bounds.horizon, last)))
-      (λ (b : is.put.at ≡ done_at end.slot).
-      absurd (omega (arith, b, behind, is.here, bounds.from, bounds.horizon, last)))
-      log)
-      (λ (asked : IsAsked old end.between end.slot is.put).
-      absurd (omega (arith, asked_before is.put asked last, behind, is.here)))
-      (put_there old new (Ok r) tells still settles end.state is.planned.0 is.put is.planned.2 refl))
-      (end.only still cell value stands))
+      blank_stays old new (Ok r) tells still settles cell blank
+      (λ q here some log. grind (arith, log, behind, here, bounds.from, bounds.horizon, end.below some))
+      (λ q here some asked. omega (arith, asked_before q asked (end.below some), behind, here))
 
 -- the outcome cell of a slot is q for that slot alone
 same_slot : (g : Layout) (h n : ℕ) (p : Plan) → Suits g p → n < g.slots → (j : ℕ) (q : Put)
