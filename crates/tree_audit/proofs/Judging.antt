@@ -17,7 +17,7 @@ use Rattle.tamper_rules.specs.Rules.{BucketRule, Buckets, IsPlace, IsTrueBucket}
 use Rattle.log_audit.specs.Least.{FindsPart}
 use Rattle.log_audit.proofs.OneMore.{below_or_at}
 use Rattle.log_audit.proofs.Parts.{AskedBelow}
-use Rattle.tree_audit.specs.Buckets.{AsksBucket, IsBehind}
+use Rattle.tree_audit.specs.Buckets.{AsksBucket}
 use Rattle.tree_audit.specs.Documents.{HasDigest}
 use Rattle.tree_audit.specs.Nodes.{AreNodes}
 use Rattle.tree_audit.specs.Paths.{GoesBy}
