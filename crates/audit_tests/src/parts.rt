@@ -1,7 +1,7 @@
 //! What parts of an audit answer: written cells over several chunks, the log, blocks, nodes and tilings.
 use crate::cells::{Written, device_with};
 use cell_types::{Cell, Geometry};
-use list_audit::{ListBlock, blocks_of};
+use list_audit::{ListBlock, blocks_for_two, blocks_of};
 use log_audit::{KeptVolume, Shown, check_log, keep_cells};
 use slot_audit::{first_broken_document, first_broken_journal, first_broken_tiling};
 use std::alloc::Global;
@@ -161,6 +161,30 @@ fn each_block_of_a_list_is_there_once(rt: HostRuntime) -> Result<(), Fail> {
         block,
     });
     assert_eq!(rt; blocks.as_slice(), expected.as_slice());
+    Ok(())
+}
+
+/// A pointer of each of three lists leads to 840, and one of 840 to 1,100. The first 1,000 cells are kept.
+#[test]
+fn a_block_of_three_lists_is_there_for_two(rt: HostRuntime) -> Result<(), Fail> {
+    let cells = [
+        (164, leading(7, 840, 164)),
+        (420, leading(7, 840, 420)),
+        (676, leading(7, 840, 676)),
+        (968, leading(7, 1_100, 968)),
+    ];
+    let mut device = device_with(rt.alloc(), &cells, &[])?;
+    let kept = keep_cells(rt.alloc(), &mut device)?;
+    let geometry = Geometry::new(8, 3, 1_400, 1).ok_or("no volume")?;
+    let found = blocks_for_two(rt.alloc(), &kept, &geometry)?;
+    let firsts = [(0, 36), (1, 292), (2, 548)];
+    let behind = [(0, 840), (1, 840), (0, 1_100), (1, 1_100)];
+    assert_eq!(rt; found.blocks.len(), 7);
+    for ((list, block), listed) in firsts.into_iter().chain(behind).zip(&found.blocks) {
+        assert_eq!(rt; *listed, ListBlock { list, block });
+    }
+    let all = blocks_of(rt.alloc(), &kept, &geometry)?;
+    assert_eq!(rt; all.len(), 9);
     Ok(())
 }
 

@@ -1,4 +1,5 @@
 mod AllLed
+pub mod Blank
 pub mod Closing
 pub mod EachBlock
 mod Following

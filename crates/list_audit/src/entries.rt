@@ -6,7 +6,7 @@ ghost use Rattle.log_audit.specs.Kept.{image_of_kept};
 ghost use Rattle.log_audit.specs.Findings.{FindsBroken};
 ghost use Rattle.log_audit.specs.Least.{FindsPart};
 ghost use Rattle.list_audit.specs.Blocks.{AreBlocksForTwo};
-ghost use Rattle.list_audit.specs.Entries.{KeepsEntryRule, BlockAsks};
+ghost use Rattle.list_audit.specs.Entries.{KeepsEntryRule, BlockAsks, PlacesAsk};
 
 use crate::blocks::{BEHIND_POINTERS, FIRST_POINTER};
 use crate::held_posting::posting_at;
@@ -37,21 +37,40 @@ pub fn first_broken_entry(
     least
 }
 
-/// The first cell of a block at which it breaks rule 8.
+/// The first cell of a block at which it breaks rule 8. Nothing is asked of its pointer places.
 fn first_in_block(kept: &KeptCells, geometry: &Geometry, listed: &ListBlock) -> Option<Evidence>
     requires { IsBlockOf geometry.now (image_of_kept kept.now) listed.now.list listed.now.block }
     ensures { FindsPart geometry.now (image_of_kept kept.now) Entries
         (BlockAsks (image_of_kept kept.now) listed.now.block) result }
 {
+    let entries = first_in_places(kept, geometry, listed, 0, FIRST_POINTER);
+    let behind = first_in_places(kept, geometry, listed, BEHIND_POINTERS, BLOCK_CELLS);
+    lower_of(entries, behind)
+}
+
+/// The same of its places from one on and below another, none of which is a pointer place.
+fn first_in_places(
+    kept: &KeptCells,
+    geometry: &Geometry,
+    listed: &ListBlock,
+    from: u32,
+    to: u32,
+) -> Option<Evidence>
+    requires block { IsBlockOf geometry.now (image_of_kept kept.now) listed.now.list listed.now.block }
+    requires places { to ≤ 128 ⊎ 248 ≤ from }
+    requires most { to ≤ 256 }
+    ensures { FindsPart geometry.now (image_of_kept kept.now) Entries
+        (PlacesAsk (image_of_kept kept.now) listed.now.block from to) result }
+{
     let _cells = geometry.cells();
     let block = listed.block;
-    for place in 0..BLOCK_CELLS {
-        // Nothing is asked of pointers, nearly half of the places.
-        if FIRST_POINTER <= place && place < BEHIND_POINTERS {
-            continue;
-        }
+    for place in from..to {
         let cell = block + place;
         let Some(found) = kept.at(cell) else {
+            // Mostly nothing stands behind the last entry.
+            if kept.are_blank(cell, block + to) {
+                return None;
+            }
             continue;
         };
         if !keeps_entry_rule(kept, block, place) {

@@ -135,6 +135,10 @@ fn first_fake_in(
     for place in 0..u32::from(ENTRY_PLACES) {
         let cell = block + place;
         let Some(posting) = posting_at(kept, cell) else {
+            // Mostly nothing stands behind the last posting.
+            if kept.are_blank(cell, block + u32::from(ENTRY_PLACES)) {
+                return None;
+            }
             continue;
         };
         if let Some(at) = table.place_of(listed.list, &posting, guess) {

@@ -24,6 +24,15 @@ abbrev pub AreOnlyBetween : List WrittenCell → ℕ → ℕ → ℕ → Type 0
 AreOnlyBetween rows from to number =
     (k : ℕ) (row : WrittenCell) → slice_get rows k ≡ Some row → row.number ≡ number → (from ≤ k) × (k < to)
 
+-- of those with a number from one on and below another each stands between these two places
+abbrev pub AreAllBetween : List WrittenCell → ℕ → ℕ → ℕ → ℕ → Type 0
+AreAllBetween rows low high first behind =
+    (k : ℕ) (row : WrittenCell) → slice_get rows k ≡ Some row → first ≤ row.number → row.number < behind → (low ≤ k) × (k < high)
+
+-- the cells from one on and below another are blank
+abbrev pub AreBlankBetween : Image → ℕ → ℕ → Type 0
+AreBlankBetween image first behind = (cell : ℕ) → first ≤ cell → cell < behind → image cell ≡ None
+
 -- What was found in the cells below a number: the written ones, by rising numbers, and of the first pages how many stand
 -- before each.
 pub record AreCellsKept (count : ℕ) (rows : List WrittenCell) (starts : List ℕ) : Type 0 where

@@ -1,6 +1,6 @@
 //! What stands in kept cells.
-ghost use Rattle.std.specs.Prelude.{◌≡◌, ◌<◌, ◌≤◌, ◌+◌, ◌*◌, ◌^◌, ℕ, Some, length, slice_get};
-ghost use Rattle.log_audit.specs.Cells.{shown_by, AreRising, AreOnlyBetween};
+ghost use Rattle.std.specs.Prelude.{◌≡◌, ◌<◌, ◌≤◌, ◌+◌, ◌*◌, ◌^◌, ℕ, IsTrue, Some, length, slice_get};
+ghost use Rattle.log_audit.specs.Cells.{shown_by, AreAllBetween, AreBlankBetween, AreRising, AreOnlyBetween};
 ghost use Rattle.log_audit.specs.AllRows.{all_rows};
 ghost use Rattle.log_audit.specs.Kept.{image_of_kept, count_of};
 ghost use Rattle.log_audit.specs.declared.written.WrittenCell.{WrittenCell};
@@ -19,6 +19,15 @@ impl KeptCells {
         let from = self.first_of(page);
         let to = self.last_of(page);
         held_between(&self.rows, from, to, number)
+    }
+
+    /// Whether no written cell is kept from one number on and below another.
+    pub fn are_blank(&self, from: u32, behind: u32) -> bool
+        ensures { IsTrue result → AreBlankBetween (image_of_kept self.now) from behind }
+    {
+        let low = self.first_of((from / PAGE_CELLS) as usize);
+        let high = self.last_of((behind / PAGE_CELLS) as usize);
+        no_row_between(&self.rows, low, high, from, behind)
     }
 
     /// How many cells are kept, blank ones too.
@@ -87,6 +96,31 @@ fn held_between(rows: &ChunkedRows, from: usize, to: usize, number: u32) -> Opti
         }
     }
     None
+}
+
+/// Whether no written cell has a number from one on and below another, where those that have stand at these places alone.
+fn no_row_between(rows: &ChunkedRows, from: usize, to: usize, first: u32, behind: u32) -> bool
+    requires rising { AreRising (all_rows rows.now) }
+    requires places { AreAllBetween (all_rows rows.now) from to first behind }
+    requires within { to ≤ length (all_rows rows.now) }
+    ensures { IsTrue result → AreBlankBetween (shown_by (all_rows rows.now)) first behind }
+{
+    let mut low = from;
+    let mut high = to;
+    while low < high {
+        let middle = low + (high - low) / 2;
+        let Some(row) = rows.row_at(middle) else {
+            unreachable!();
+        };
+        if row.number < first {
+            low = middle + 1;
+        } else if row.number < behind {
+            return false;
+        } else {
+            high = middle;
+        }
+    }
+    true
 }
 
 /// The guess, where it is one and lies between the two, or else the place in the middle.

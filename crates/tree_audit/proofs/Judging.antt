@@ -1,27 +1,19 @@
 -- Which buckets are true ones, and what all nodes ask.
-use Rattle.std.proofs.Common.{◌≡◌, ◌<◌, ◌≤◌, ◌+◌, ⊎_elim, inl, inr, ℕ, List, length, Option, Some, None, sym, ◌∙◌, subst, ap, arith}
-use Rattle.std.specs.Prelude.{slice_get}
-use Rattle.std.proofs.lemmas.Option.{slice_get_within}
+use Rattle.std.proofs.Common.{◌≡◌, ◌<◌, ◌+◌, inl, inr, ℕ, List, sym, ◌∙◌, subst, ap, arith}
 use Rattle.sha2.specs.Sha256.{sha256}
 use Rattle.cell_types.specs.Image.{Image}
 use Rattle.cell_types.specs.Layout.{Layout, IsLayout}
 use Rattle.cell_types.specs.declared.record_cell.RecordCell.TheVariants as records
-use Rattle.cell_types.specs.declared.refusal.Evidence.{Evidence}
 use Rattle.volume_meaning.specs.HashPaths.{fingerprint_of}
 use Rattle.volume_meaning.specs.Nodes.{IsNode}
 use Rattle.volume_meaning.specs.Documents.{Stands}
 use Rattle.volume_meaning.specs.Volumes.{Holds}
 use Rattle.volume_meaning.proofs.Holding.{one_record_holds}
 use Rattle.volume_meaning.proofs.OneDocument.{one_document}
-use Rattle.tamper_rules.specs.Rules.{BucketRule, Buckets, IsPlace, IsTrueBucket}
-use Rattle.log_audit.specs.Least.{FindsPart}
-use Rattle.log_audit.proofs.OneMore.{below_or_at}
-use Rattle.log_audit.proofs.Parts.{AskedBelow}
+use Rattle.tamper_rules.specs.Rules.{Buckets, IsPlace, IsTrueBucket}
 use Rattle.tree_audit.specs.Buckets.{AsksBucket}
 use Rattle.tree_audit.specs.Documents.{HasDigest}
-use Rattle.tree_audit.specs.Nodes.{AreNodes}
 use Rattle.tree_audit.specs.Paths.{GoesBy}
-use Rattle.tree_audit.specs.declared.nodes.LevelNode.{LevelNode}
 
 buckets : (a b : ℕ) (f h : List ℕ) → records.Bucket a f ≡ records.Bucket b h → (a ≡ b) × (f ≡ h)
 buckets a b f h e = (cc, cc)

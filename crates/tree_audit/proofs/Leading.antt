@@ -1,8 +1,8 @@
 -- Whether child cells lead down well.
-use Rattle.std.proofs.Common.{◌≡◌, ◌<◌, ◌≤◌, ◌+◌, ◌-◌, ◌^◌, ◌⊎◌, ⊎_elim, inl, inr, ℕ, List, length, get_or, Some, refl, sym, ◌∙◌, subst, ap, arith}
-use Rattle.std.specs.Prelude.{slice_get, Contains}
+use Rattle.std.proofs.Common.{◌≡◌, ◌<◌, ◌≤◌, ◌+◌, ◌-◌, ◌^◌, ◌⊎◌, ⊎_elim, inl, inr, ℕ, List, length, get_or, refl, sym, ◌∙◌, subst, ap, arith}
+use Rattle.std.specs.Prelude.{Contains}
 use Rattle.std.proofs.lemmas.Bool.{cases_order}
-use Rattle.std.proofs.lemmas.Option.{none-some, slice_get-get_or, slice_get_within}
+use Rattle.std.proofs.lemmas.Option.{none-some, slice_get-get_or}
 use Rattle.cell_types.specs.Image.{Image}
 use Rattle.cell_types.specs.Layout.{Layout, IsLayout, pool_at}
 use Rattle.cell_types.specs.Records.{IsRecordCell}
@@ -13,7 +13,7 @@ use Rattle.volume_meaning.specs.Nodes.{AreApart, IsBlockOf, IsNode}
 use Rattle.volume_meaning.specs.Slots.{EndsBelow, IsEdge}
 use Rattle.volume_meaning.specs.Volumes.{Holds, IsWritten}
 use Rattle.tamper_rules.specs.Journals.{LiesInBlocks, journal_at}
-use Rattle.tamper_rules.specs.Rules.{ChildRule, Children, IsPlace, LeadsDownWell, ReserveCells}
+use Rattle.tamper_rules.specs.Rules.{Children, IsPlace, LeadsDownWell, ReserveCells}
 use Rattle.tamper_rules.proofs.Settled.{one_end}
 use Rattle.log_audit.specs.Between.{HasBetween}
 use Rattle.log_audit.specs.Findings.{IsMetAll}
@@ -24,13 +24,11 @@ use Rattle.log_audit.specs.declared.log.Log.{Log}
 use Rattle.log_audit.specs.declared.stored.StoredSlot.{StoredSlot}
 use Rattle.log_audit.proofs.Beginning.{ended_cells}
 use Rattle.log_audit.proofs.Logged.{one_slot}
-use Rattle.log_audit.proofs.Parts.{AskedBelow}
 use Rattle.log_audit.proofs.Storing.{one_row}
 use Rattle.tree_audit.specs.Around.{AreAround, IsLeadOf, lead_number}
 use Rattle.tree_audit.specs.Children.{AsksChild, HasCopyOf, IsClear, IsFirstTo, IsJournaled, IsWellLed}
-use Rattle.tree_audit.specs.Nodes.{AreNodes, HasChildInPool}
+use Rattle.tree_audit.specs.Nodes.{HasChildInPool}
 use Rattle.tree_audit.specs.declared.around.Around.{Around}
-use Rattle.tree_audit.specs.declared.nodes.LevelNode.{LevelNode}
 use Rattle.tree_audit.proofs.Closing.{node_inside, one_target}
 
 -- the edge of a log is one

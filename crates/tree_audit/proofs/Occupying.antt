@@ -1,5 +1,5 @@
 -- The numbers of all blocks and the first cells of all nodes, sorted.
-use Rattle.std.proofs.Common.{◌≡◌, ◌<◌, ◌*◌, ⊎_elim, inl, inr, ◌∙◌, ℕ, List, length, get_or, Some, sym, ap, subst, arith}
+use Rattle.std.proofs.Common.{◌≡◌, ◌<◌, ⊎_elim, inl, inr, ◌∙◌, ℕ, List, length, get_or, Some, sym, ap, subst, arith}
 use Rattle.std.specs.Prelude.{Contains, slice_get}
 use Rattle.std.proofs.lemmas.Grind.{get_or_default_zero}
 use Rattle.std.proofs.lemmas.Option.{slice_get_cases, slice_get-get_or, slice_get_within}

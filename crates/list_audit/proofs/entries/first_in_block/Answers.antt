@@ -1,29 +1,27 @@
--- The block lies on the device; its first place that breaks the rule; and none does.
-use Rattle.std.proofs.Common.{◌≤◌, ◌<◌, ◌+◌, ℕ, refl, sym, ◌∙◌, arith}
+-- What its entry places ask, what those behind its pointers do, and nothing of those between.
+use Rattle.std.proofs.Common.{◌<◌, ◌≤◌, ◌⊎◌, ⊎_elim, ℕ, sym, subst, arith}
 use Rattle.log_audit.specs.Kept.{image_of_kept}
+use Rattle.log_audit.specs.Least.{FindsPart}
 use Rattle.tamper_rules.specs.Rules.{Entries}
-use Rattle.log_audit.proofs.Deciding.{decided_no}
-use Rattle.log_audit.proofs.Parts.{first_of_part}
-use Rattle.list_audit.specs.Entries.{KeepsEntryRule, BlockAsks}
-use Rattle.list_audit.proofs.Closing.{block_inside}
-use Rattle.list_audit.proofs.Ordered.{is_place}
+use Rattle.log_audit.proofs.Parts.{as_asked, both_parts}
+use Rattle.list_audit.specs.Entries.{BlockAsks, PlacesAsk}
 use Rattle.list_audit.proofs.entries.first_in_block.Goals as goal
 
-pub overflow_add-cell : goal.overflow_add-cell
-overflow_add-cell c =
-    let inside : c.args.listed.now.block + 256 ≤ c.args.geometry.now.cells = block_inside c.cells-cells.ensures.exists c.requires in
-    omega (arith, inside, c.cells-cells.ensures.exists.cells, c.loop-place-test.true)
+split : (k n : ℕ) → (k < n) ⊎ (n ≤ k)
+split k n = grind arith
 
-pub keeps_entry_rule-requires-clause-room : goal.keeps_entry_rule-requires-clause-room
-keeps_entry_rule-requires-clause-room c =
-    let inside : c.args.listed.now.block + 256 ≤ c.args.geometry.now.cells = block_inside c.cells-cells.ensures.exists c.requires in
-    omega (arith, inside, c.cells-cells.ensures.exists.cells)
-
-pub returns-then-not-keeps_entry_rule : goal.returns-then-not-keeps_entry_rule
-returns-then-not-keeps_entry_rule c =
+pub returns : goal.returns
+returns c =
     let g = c.args.geometry.now in let image = image_of_kept c.args.kept.now in let block = c.args.listed.now.block in
-    let few : c.loop-place.place < 256 = omega (arith, c.loop-place-test.true) in
-    first_of_part g image Entries (BlockAsks image block) (λ (place : ℕ). block + place) (KeepsEntryRule image block) c.loop-place.place 256 _
-    (λ cell asked. asked) (λ asked. asked c.loop-place.place few refl) (λ a b less. omega (arith, less)) c.loop-place.invariant
-    (decided_no _ c.keeps_entry_rule.ensures c.if-not-keeps_entry_rule.true) refl
-    (is_place g image c.args.listed.now.list block c.loop-place.place c.requires few) (sym c.at.ensures ∙ c.in-Some.is) refl
+    subst (FindsPart g image Entries (BlockAsks image block)) (sym c.lower_of.ensures)
+    (as_asked g image Entries (λ cell. PlacesAsk image block 0 128 cell × PlacesAsk image block 248 256 cell) (BlockAsks image block) _
+    (both_parts g image Entries (PlacesAsk image block 0 128) (PlacesAsk image block 248 256) _ _
+    c.first_in_places-entries.ensures c.first_in_places-behind.ensures)
+    (λ cell both place few at. ⊎_elim
+    (λ (entry : place < 128). both.0 place (omega arith) entry at)
+    (λ (past : 128 ≤ place). ⊎_elim
+    (λ (pointer : place < 248). record { entry = λ less. absurd (omega (arith, less, past)); blank = pointer })
+    (λ (behind : 248 ≤ place). both.1 place behind few at)
+    (split place 248))
+    (split place 128))
+    (λ cell asked. (λ place low less at. asked place (omega (arith, less)) at, λ place low less at. asked place less at)))

@@ -5,6 +5,7 @@ use Rattle.log_audit.specs.Kept.{image_of_kept}
 use Rattle.tamper_rules.specs.Rules.{Postings}
 use Rattle.log_audit.proofs.Families.{fine_more}
 use Rattle.log_audit.proofs.Parts.{first_of_part, part_met}
+use Rattle.list_audit.proofs.Blank.{fine_to}
 use Rattle.list_audit.proofs.Closing.{block_inside}
 use Rattle.list_audit.proofs.Ordered.{is_place}
 use Rattle.list_audit.specs.Owing.{KeepsPostingRule, BlockOwes}
@@ -17,8 +18,21 @@ overflow_add-cell c =
     let inside : c.args.listed.now.block + 256 ≤ c.args.geometry.now.cells = block_inside c.cells-cells.ensures.exists c.requires.block in
     omega (arith, inside, c.cells-cells.ensures.exists.cells, c.loop-place-test.true, c.from-place-end.ensures)
 
+pub overflow_add-block : goal.overflow_add-block
+overflow_add-block c =
+    let inside : c.args.listed.now.block + 256 ≤ c.args.geometry.now.cells = block_inside c.cells-cells.ensures.exists c.requires.block in
+    omega (arith, inside, c.cells-cells.ensures.exists.cells, c.from.ensures)
+
 pub loop-place-preserved-in_default : goal.loop-place-preserved-in_default
 loop-place-preserved-in_default c = fine_more c.loop-place.invariant (λ _ p holds. absurd (c.in_default.ensures.none p holds))
+
+pub returns-then-are_blank : goal.returns-then-are_blank
+returns-then-are_blank c =
+    let g = c.args.geometry.now in let image = image_of_kept c.args.kept.now in
+    let l = c.args.listed.now.list in let block = c.args.listed.now.block in
+    part_met g image Postings (BlockOwes g image l block) (λ (place : ℕ). block + place) (KeepsPostingRule g image l block) 128
+    (λ cell asked. asked)
+    (fine_to block c.loop-place.invariant (c.are_blank.ensures c.if-are_blank.true) refl (omega (arith, c.from.ensures)))
 
 pub loop-place-preserved : goal.loop-place-preserved
 loop-place-preserved c =
