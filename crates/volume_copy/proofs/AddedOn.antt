@@ -11,7 +11,7 @@ use Rattle.cell_types.specs.declared.refusal.Refusal.TheVariants as refusals
 use Rattle.volume_meaning.specs.Documents.{AreDocuments, Document, Stands}
 use Rattle.volume_meaning.specs.Slots.{IsStampOf}
 use Rattle.volume_meaning.specs.Volumes.{IsVolume}
-use Rattle.volume_meaning.proofs.Extending.{done_slot_on, stands_on, volume_on}
+use Rattle.volume_meaning.proofs.Extending.{stands_on, volume_on}
 use Rattle.volume_meaning.proofs.OneDocument.{one_document}
 use Rattle.volume_meaning.proofs.Stamps.{stamp_on}
 use Rattle.tamper_rules.specs.Settling.{Held, IsBlankOrSound, Settled, Sound, nothing, of_after}

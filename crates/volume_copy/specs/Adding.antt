@@ -1,5 +1,5 @@
 -- What copying one document does, and copying those that have no pair.
-use Rattle.std.specs.Prelude.{◌≡◌, ◌<◌, ◌≤◌, ℕ, List, length, slice_index, Option, Result, Ok, Err, IsTrue, ⊤}
+use Rattle.std.specs.Prelude.{◌≡◌, ◌≤◌, ℕ, List, length, slice_index, Option, Result, Ok, Err, IsTrue, ⊤}
 use Rattle.cell_types.specs.Layout.{Layout}
 use Rattle.cell_types.specs.declared.refusal.CopyRefusal.{CopyRefusal}
 use Rattle.cell_types.specs.declared.refusal.CopyRefusal.TheVariants.{From, NoMemory, To}

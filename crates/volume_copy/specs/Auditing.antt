@@ -1,5 +1,5 @@
 -- What it means that a volume is audited before it is copied, and what is known of it then.
-use Rattle.std.specs.Prelude.{◌≡◌, ◌<◌, ℕ, List, length, slice_index, Contains, Result, Ok, Err, IsTrue}
+use Rattle.std.specs.Prelude.{◌≡◌, ℕ, List, Contains, Result, Ok, Err, IsTrue}
 use Rattle.cell_types.specs.Image.{IsUnchanged}
 use Rattle.cell_types.specs.Layout.{IsLayout, Layout}
 use Rattle.cell_types.specs.declared.refusal.Refusal.{Refusal}

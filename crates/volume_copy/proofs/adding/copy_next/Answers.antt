@@ -1,5 +1,5 @@
 -- The document was read, and ingested.
-use Rattle.std.proofs.Common.{inl, sym, ◌∙◌, ◌≡◌, ◌<◌, length, arith}
+use Rattle.std.proofs.Common.{inl, sym, ◌≡◌, ◌<◌, length, arith}
 use Rattle.std.specs.Prelude.{slice_index}
 use Rattle.worm_device.proofs.Elapsing.{called_self}
 use Rattle.volume_copy.proofs.AddedOn.{ingest_complete, ingest_first, ingests_of, source_complete, source_fails, target_fails}

@@ -1,5 +1,5 @@
 -- Place after place.
-use Rattle.std.proofs.Common.{arith, rules, refl, ◌∙◌, ◌≡◌, ◌<◌, ◌≤◌, length}
+use Rattle.std.proofs.Common.{arith, rules, refl, ◌≡◌, ◌<◌, ◌≤◌, length}
 use Rattle.std.specs.Prelude.{slice_index}
 use Rattle.cell_types.proofs.Passed.{handed}
 use Rattle.cell_types.specs.declared.refusal.CopyRefusal.TheVariants as copies

@@ -1,5 +1,5 @@
 -- Both documents were read, and compared.
-use Rattle.std.proofs.Common.{◌∙◌, ◌≡◌, false, refl, true}
+use Rattle.std.proofs.Common.{◌≡◌, false, refl, true}
 use Rattle.volume_copy.proofs.Compared.{reads_both}
 use Rattle.volume_copy.proofs.PartSlots.{part_at}
 use Rattle.volume_copy.proofs.comparing.compare_next.Goals as goal
