@@ -34,7 +34,6 @@ use Rattle.worm_memory.specs.declared.moment.Timed as planned
 use Rattle.worm_memory.proofs.Accounts.{changes_append, foreign_writes_append}
 use Rattle.worm_memory.proofs.Counting.{both, both_risen, none_synced, one_synced, own_is, standing_all, standing_none, syncs_in, writes_in}
 use Rattle.worm_memory.proofs.OwnChanges.{none_uncounted, planned_first, takes_steps}
-use Rattle.worm_memory.proofs.Telling.{record_tells}
 use Rattle.worm_memory.proofs.Worlds.{after_row}
 use Rattle.plan_writer.specs.Planned.{document_from}
 use Rattle.script_events.specs.declared.event.Event.TheVariants as event
