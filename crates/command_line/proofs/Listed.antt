@@ -24,33 +24,15 @@ three (a ∷ []) x y z n p q r = absurd (omega arith)
 three (a ∷ b ∷ []) x y z n p q r = absurd (omega arith)
 three (a ∷ b ∷ d ∷ e ∷ xs) x y z n p q r = absurd (omega arith)
 
--- and a list of four is the four
-pub four : {A : Type 0} (xs : List A) (x y z w : A) → length xs ≡ 4 → x ≡ get_or xs 0 x → y ≡ get_or xs 1 y
-    → z ≡ get_or xs 2 z → w ≡ get_or xs 3 w → xs ≡ x ∷ y ∷ z ∷ w ∷ []
-four (a ∷ b ∷ d ∷ e ∷ []) x y z w n p q r s =
-    let f : a ≡ x = sym p in let g : b ≡ y = sym q in let h : d ≡ z = sym r in let i : e ≡ w = sym s in cc
-four [] x y z w n p q r s = absurd (omega arith)
-four (a ∷ []) x y z w n p q r s = absurd (omega arith)
-four (a ∷ b ∷ []) x y z w n p q r s = absurd (omega arith)
-four (a ∷ b ∷ d ∷ []) x y z w n p q r s = absurd (omega arith)
-four (a ∷ b ∷ d ∷ e ∷ f ∷ xs) x y z w n p q r s = absurd (omega arith)
+-- lists of three that are the same have the same first, second and third
+pub first_of_three : {A : Type 0} (a b c x y z : A) → a ∷ b ∷ c ∷ [] ≡ x ∷ y ∷ z ∷ [] → a ≡ x
+first_of_three a b c x y z e = cc
 
--- lists of three that are the same have the same second and third
 pub second_is : {A : Type 0} (a b c x y z : A) → a ∷ b ∷ c ∷ [] ≡ x ∷ y ∷ z ∷ [] → b ≡ y
 second_is a b c x y z e = cc
 
 pub third_is : {A : Type 0} (a b c x y z : A) → a ∷ b ∷ c ∷ [] ≡ x ∷ y ∷ z ∷ [] → c ≡ z
 third_is a b c x y z e = cc
-
--- and of four the same second, third and fourth
-pub second_of_four : {A : Type 0} (a b c d x y z w : A) → a ∷ b ∷ c ∷ d ∷ [] ≡ x ∷ y ∷ z ∷ w ∷ [] → b ≡ y
-second_of_four a b c d x y z w e = cc
-
-pub third_of_four : {A : Type 0} (a b c d x y z w : A) → a ∷ b ∷ c ∷ d ∷ [] ≡ x ∷ y ∷ z ∷ w ∷ [] → c ≡ z
-third_of_four a b c d x y z w e = cc
-
-pub fourth_of_four : {A : Type 0} (a b c d x y z w : A) → a ∷ b ∷ c ∷ d ∷ [] ≡ x ∷ y ∷ z ∷ w ∷ [] → d ≡ w
-fourth_of_four a b c d x y z w e = cc
 
 -- lists of two that are the same have the same first and second
 pub front_is : {A : Type 0} (a b x y : A) → a ∷ b ∷ [] ≡ x ∷ y ∷ [] → a ≡ x

@@ -4,13 +4,17 @@ use Rattle.cell_types.specs.declared.geometry.TheConstants.{FIRST_VERSION, MAX_L
 use Rattle.command_line.specs.Words.{AreSeconds, IsNoOption, IsNumberUpTo}
 use Rattle.command_line.specs.declared.words.TheConstants.{MAX_DOCUMENTS, MAX_QUERY_WORDS}
 
--- the words are `format` and these numbers of slots and lists
-pub record AsksPlainly (words : List (List ℕ)) (slots lists : ℕ) : Type 0 where
+-- the words are this name and two that stand for these numbers of slots and lists
+pub record AsksWithNumbers (name : List ℕ) (words : List (List ℕ)) (slots lists : ℕ) : Type 0 where
   pub first : List ℕ
   pub second : List ℕ
-  pub asked : words ≡ codes "format" ∷ first ∷ second ∷ []
+  pub asked : words ≡ name ∷ first ∷ second ∷ []
   pub slots_word : IsNumberUpTo MAX_SLOTS first slots
   pub lists_word : IsNumberUpTo MAX_LISTS second lists
+
+-- the words are `format` and these numbers of slots and lists
+abbrev pub AsksPlainly : List (List ℕ) → ℕ → ℕ → Type 0
+AsksPlainly words slots lists = AsksWithNumbers (codes "format") words slots lists
 
 -- the words are `format`, these numbers of slots and lists, and this version
 pub record AsksByVersion (words : List (List ℕ)) (slots lists version : ℕ) : Type 0 where

@@ -8,7 +8,8 @@
 //!
 //! `command_of` reads the words in place, without memory, and answers the one command that they ask for, or that they ask
 //! for none. A word that is empty or begins with a hyphen is an option, and no command takes one. A number has 1 to 10
-//! digits and is in its range.
+//! digits and is in its range. `numbers_behind` reads numbers of slots and lists, behind `format` and behind `copy`, which
+//! is no command of one device.
 //!
 //! What most commands put out are lines: of a slot, as `acknowledged 0`, of a document, as `0 a 11`, and how many were
 //! found. They are made here, and a text goes into a sink whole or in a first part.
@@ -26,6 +27,5 @@ mod text;
 mod words;
 
 pub use laws::{decimals_are_numbers, words_ask_once};
-pub use numbers::number_up_to;
 pub use text::{SinkFailed, push_count_line, push_document_line, put_slot_line, put_text};
-pub use words::{Command, MAX_DOCUMENTS, MAX_QUERY_WORDS, command_of};
+pub use words::{Command, MAX_DOCUMENTS, MAX_QUERY_WORDS, Numbers, command_of, numbers_behind};

@@ -13,7 +13,7 @@ pub(crate) fn is_option(word: &[u8]) -> bool
 }
 
 /// The number that the word stands for, where it is 1 to 10 digits and the number from 1 to the most.
-pub fn number_up_to(most: u32, word: &[u8]) -> Option<u32>
+pub(crate) fn number_up_to(most: u32, word: &[u8]) -> Option<u32>
     ensures some { IfSome result (IsNumberUpTo most word.now) }
     ensures none { IfNone result ((n : ℕ) → IsNumberUpTo most word.now n → ⊥) }
 {

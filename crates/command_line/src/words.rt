@@ -1,7 +1,7 @@
 //! The words of a command, read in place.
 ghost use Rattle.std.specs.Prelude.{◌≡◌, ◌↔◌, ℕ, List, [], ◌∷◌, Option, map, IfSome, IfNone, IsTrue};
 ghost use Rattle.std.specs.String.{string_bytes};
-ghost use Rattle.command_line.specs.Asking.{AsksBetween, AsksByVersion, AsksForReceipt, AsksPlainly, AsksToExercise, AsksToFind, AsksToFormat, AsksToIngest, AsksToLookUp, AsksWithStamp, AsksWithoutStamp};
+ghost use Rattle.command_line.specs.Asking.{AsksBetween, AsksByVersion, AsksForReceipt, AsksPlainly, AsksToExercise, AsksToFind, AsksToFormat, AsksToIngest, AsksToLookUp, AsksWithNumbers, AsksWithStamp, AsksWithoutStamp};
 ghost use Rattle.command_line.specs.Words.{IsNoOption};
 ghost use Rattle.command_line.specs.Requests.{Asks, AsksNothing, request_of};
 
@@ -41,6 +41,15 @@ pub enum Command<'a> {
     /// Search the documents whose stamps lie from one time to another, in seconds, of which the first is not past the
     /// second.
     FindBetween { from: u32, to: u32 },
+}
+
+/// How many slots and lists a volume has, or is to have, each in its range.
+#[derive(Clone, Copy)]
+pub struct Numbers {
+    /// The slots.
+    pub slots: u32,
+    /// The lists.
+    pub lists: u16,
 }
 
 /// The command that the words ask for.
@@ -108,6 +117,27 @@ fn word_behind<'a>(words: &'a [String], command: &str) -> Option<&'a [u8]>
     Some(word)
 }
 
+/// The numbers of slots and lists behind this name, where the words are the name and these two, each in its range.
+pub fn numbers_behind(words: &[String], name: &str) -> Option<Numbers>
+    ensures some { IfSome result (λ numbers.
+        AsksWithNumbers name.now (map string_bytes words.now) numbers.slots numbers.lists) }
+    ensures none { IfNone result ((slots lists : ℕ)
+        → AsksWithNumbers name.now (map string_bytes words.now) slots lists → ⊥) }
+{
+    let [command, slots, lists] = words else {
+        return None;
+    };
+    if command.as_str() != name {
+        return None;
+    }
+    let slots = number_up_to(MAX_SLOTS, slots.as_bytes())?;
+    let lists = number_up_to(u32::from(MAX_LISTS), lists.as_bytes())?;
+    Some(Numbers {
+        slots,
+        lists: lists as u16,
+    })
+}
+
 /// The command `format`, where the words are this and two or three numbers in range.
 fn format_of(words: &[String]) -> Option<Command<'_>>
     ensures some { IfSome result (λ command. Asks (map string_bytes words.now) (request_of command)) }
@@ -125,17 +155,10 @@ fn plain_format_of(words: &[String]) -> Option<Command<'_>>
     ensures some { IfSome result (λ command. Asks (map string_bytes words.now) (request_of command)) }
     ensures none { IfNone result ((slots lists : ℕ) → AsksPlainly (map string_bytes words.now) slots lists → ⊥) }
 {
-    let [command, slots, lists] = words else {
-        return None;
-    };
-    if command.as_str() != "format" {
-        return None;
-    }
-    let slots = number_up_to(MAX_SLOTS, slots.as_bytes())?;
-    let lists = number_up_to(u32::from(MAX_LISTS), lists.as_bytes())?;
+    let Numbers { slots, lists } = numbers_behind(words, "format")?;
     Some(Command::Format {
         slots,
-        lists: lists as u16,
+        lists,
         version: FIRST_VERSION,
     })
 }
@@ -146,18 +169,12 @@ fn versioned_format_of(words: &[String]) -> Option<Command<'_>>
     ensures none { IfNone result ((slots lists version : ℕ)
         → AsksByVersion (map string_bytes words.now) slots lists version → ⊥) }
 {
-    let [command, slots, lists, version] = words else {
-        return None;
-    };
-    if command.as_str() != "format" {
-        return None;
-    }
-    let slots = number_up_to(MAX_SLOTS, slots.as_bytes())?;
-    let lists = number_up_to(u32::from(MAX_LISTS), lists.as_bytes())?;
-    let version = number_up_to(u32::from(NEWEST_VERSION), version.as_bytes())?;
+    let (last, plain) = words.split_last()?;
+    let Numbers { slots, lists } = numbers_behind(plain, "format")?;
+    let version = number_up_to(u32::from(NEWEST_VERSION), last.as_bytes())?;
     Some(Command::Format {
         slots,
-        lists: lists as u16,
+        lists,
         version: version as u8,
     })
 }

@@ -1,8 +1,7 @@
 -- The command `copy`: it copies a volume to another device, and puts out where its documents were and where they are.
-use Rattle.std.specs.Prelude.{◌≡◌, ◌++◌, ◌↔◌, ℕ, List, [], ◌∷◌, codes, length, Result, Ok, Err}
+use Rattle.std.specs.Prelude.{◌≡◌, ◌++◌, ◌↔◌, ℕ, List, codes, length, Result, Ok, Err}
 use Rattle.std.specs.Fmt.{decimal}
 use Rattle.std.specs.Global.{Vec}
-use Rattle.cell_types.specs.declared.geometry.TheConstants.{MAX_LISTS, MAX_SLOTS}
 use Rattle.cell_types.specs.declared.refusal.CopyRefusal.{CopyRefusal}
 use Rattle.cell_types.specs.declared.refusal.CopyRefusal.TheVariants.{NoMemory, SinkFault, Usage}
 use Rattle.worm_device.specs.Calls.{Called}
@@ -10,16 +9,12 @@ use Rattle.worm_device.specs.State.{DeviceState}
 use Rattle.host_ports.specs.Sinks.{SinkState, Gets, PutsPart}
 use Rattle.volume_copy.specs.Copies.{Copies}
 use Rattle.volume_copy.specs.declared.moved.Moved.{Moved}
+use Rattle.command_line.specs.Asking.{AsksWithNumbers}
 use Rattle.command_line.specs.Lines.{lines_of}
-use Rattle.command_line.specs.Words.{IsNumberUpTo}
 
 -- the words are `copy` and these numbers of slots and lists
-pub record AsksToCopy (words : List (List ℕ)) (slots lists : ℕ) : Type 0 where
-  pub first : List ℕ
-  pub second : List ℕ
-  pub asked : words ≡ codes "copy" ∷ first ∷ second ∷ []
-  pub slots_word : IsNumberUpTo MAX_SLOTS first slots
-  pub lists_word : IsNumberUpTo MAX_LISTS second lists
+abbrev pub AsksToCopy : List (List ℕ) → ℕ → ℕ → Type 0
+AsksToCopy words slots lists = AsksWithNumbers (codes "copy") words slots lists
 
 -- the words ask for no copy
 abbrev pub AsksNoCopy : List (List ℕ) → Type 0

@@ -19,9 +19,8 @@ ghost use Rattle.std.specs.String.{string_bytes};
 ghost use Rattle.record_top.specs.Copying.{DoesCopy, RunsCopy};
 
 use crate::copy_text::text_of;
-use crate::copy_words::{Numbers, numbers_of};
 use cell_types::CopyRefusal;
-use command_line::put_text;
+use command_line::{Numbers, numbers_behind, put_text};
 use host_ports::{Meter, Silent, Sink};
 use std::alloc::Global;
 use volume_copy::copy_metered;
@@ -58,7 +57,7 @@ pub(crate) fn run_two_metered<D: Device, E: Device, K: Sink, M: Meter>(
     ensures { RunsCopy (map string_bytes words.now) (D.state from.old) (D.state from.new) (E.state to.old)
         (E.state to.new) (K.state sink.old) (K.state sink.new) result }
 {
-    let Some(numbers) = numbers_of(words) else {
+    let Some(numbers) = numbers_behind(words, "copy") else {
         return Err(CopyRefusal::Usage);
     };
     copy_volume(alloc, numbers, from, to, sink, meter)

@@ -32,7 +32,6 @@
 
 mod command;
 mod copy_text;
-mod copy_words;
 mod copying;
 mod exercising;
 mod laws;

@@ -1,71 +1,58 @@
--- There are four words, and they are the four that were read.
-use Rattle.std.proofs.Common.{◌≡◌, ℕ, List, [], ◌∷◌, map, sym, ap, subst, ◌∙◌, inr, arith}
+-- The last word is the version, and those before it ask for the numbers.
+use Rattle.std.proofs.Common.{◌≡◌, ◌++◌, ℕ, List, [], ◌∷◌, String, map, sym, ap, subst, ◌∙◌, inr}
+use Rattle.std.proofs.lemmas.List.{map-append, same_from_push}
+use Rattle.std.specs.Global.{Global}
 use Rattle.std.specs.Prelude.{codes}
 use Rattle.std.specs.String.{string_bytes}
-use Rattle.cell_types.specs.declared.geometry.TheConstants.{MAX_LISTS, MAX_SLOTS, NEWEST_VERSION}
-use Rattle.worm_device.proofs.Compared.{alike}
+use Rattle.cell_types.specs.declared.geometry.TheConstants.{NEWEST_VERSION}
+use Rattle.command_line.specs.Asking.{AsksByVersion}
 use Rattle.command_line.specs.Words.{IsNumberUpTo}
-use Rattle.command_line.proofs.Listed.{if_none, four, second_of_four, third_of_four, fourth_of_four}
+use Rattle.command_line.proofs.Listed.{if_none}
 use Rattle.command_line.proofs.words.versioned_format_of.Goals as goal
+
+module _ (words plain : List (String Global)) (last : String Global) (split : words ≡ plain ++ last ∷ []) where
+  texts : map string_bytes words ≡ map string_bytes plain ++ string_bytes last ∷ []
+  texts = ap (map string_bytes) split ∙ map-append string_bytes plain (last ∷ [])
+
+  -- what words that ask for a volume of a version are
+  parts : {slots lists version : ℕ} (asks : AsksByVersion (map string_bytes words) slots lists version)
+      → (map string_bytes plain ≡ codes "format" ∷ asks.first ∷ asks.second ∷ []) × (string_bytes last ≡ asks.third)
+  parts asks = same_from_push _ (codes "format" ∷ asks.first ∷ asks.second ∷ []) _ _ (sym texts ∙ asks.asked)
 
 pub returns-clause-some : goal.returns-clause-some
 returns-clause-some c =
-    let same = alike c.as_str.result.now (codes "format") c.ne.result c.ne.ensures c.if-ne.false in
-    let command : string_bytes c.command-item.result ≡ codes "format" = sym c.as_str.ensures.value ∙ same in
-    let first = c.slots-item.result in
-    let second = c.lists-item.result in
-    let third = c.version-item.result in
-    let words = four c.args.words.now c.command-item.result first second third (omega arith) c.command-item.is
-    c.slots-item.is c.lists-item.is c.version-item.is in
-    let slots = c.in_ok-slots in
-    let lists = c.in_ok-lists in
+    let plain = c.in_ok-slots.ensures.some in
     let version = c.in_ok-version in
+    let last = string_bytes c.in_ok-last.last.now in
     inr (record {
-      first = string_bytes first;
-      second = string_bytes second;
-      third = string_bytes third;
-      asked = ap (map string_bytes) words
-          ∙ ap (λ (w : List ℕ). w ∷ string_bytes first ∷ string_bytes second ∷ string_bytes third ∷ []) command;
-      slots_word = subst (λ (w : List ℕ). IsNumberUpTo MAX_SLOTS w slots.slots) c.as_bytes.ensures.value
-          slots.ensures.some;
-      lists_word = subst (λ (w : List ℕ). IsNumberUpTo MAX_LISTS w lists.lists) c.as_bytes-2.ensures.value
-          (subst (λ (most : ℕ). IsNumberUpTo most c.as_bytes-2.result.now lists.lists) c.from.ensures
-          lists.ensures.some);
-      version_word = subst (λ (w : List ℕ). IsNumberUpTo NEWEST_VERSION w version.version) c.as_bytes-3.ensures.value
-          (subst (λ (most : ℕ). IsNumberUpTo most c.as_bytes-3.result.now version.version) c.from-2.ensures
+      first = plain.first;
+      second = plain.second;
+      third = last;
+      asked = texts _ _ _ c.in_ok-last.ensures.cases.0 ∙ ap (λ (w : List (List ℕ)). w ++ last ∷ []) plain.asked;
+      slots_word = plain.slots_word;
+      lists_word = plain.lists_word;
+      version_word = subst (λ (w : List ℕ). IsNumberUpTo NEWEST_VERSION w version.version) c.as_bytes.ensures.value
+          (subst (λ (most : ℕ). IsNumberUpTo most c.as_bytes.result.now version.version) c.from.ensures
           version.ensures.some);
     })
 
--- a word that stands for no number of slots
+-- no numbers stand before the last word
 pub returns-in_err-slots-clause-none : goal.returns-in_err-slots-clause-none
 returns-in_err-slots-clause-none c =
-    let words = four c.args.words.now c.command-item.result c.slots-item.result c.lists-item.result
-    c.version-item.result (omega arith) c.command-item.is c.slots-item.is c.lists-item.is c.version-item.is in
-    if_none c.from_residual.result (λ slots lists version asks.
-    let second = second_of_four _ _ _ _ _ _ _ _ (sym asks.asked ∙ ap (map string_bytes) words) in
-    c.in_err-slots.ensures.none slots
-    (subst (λ (w : List ℕ). IsNumberUpTo MAX_SLOTS w slots) (second ∙ sym c.as_bytes.ensures.value) asks.slots_word))
+    if_none c.from_residual-in_err-slots.result (λ slots lists version asks.
+    c.in_err-slots.ensures.none slots lists (record {
+      first = asks.first;
+      second = asks.second;
+      asked = (parts _ _ _ c.in_ok-last.ensures.cases.0 asks).0;
+      slots_word = asks.slots_word;
+      lists_word = asks.lists_word;
+    }))
 
--- a word that stands for no number of lists
-pub returns-in_err-lists-clause-none : goal.returns-in_err-lists-clause-none
-returns-in_err-lists-clause-none c =
-    let words = four c.args.words.now c.command-item.result c.slots-item.result c.lists-item.result
-    c.version-item.result (omega arith) c.command-item.is c.slots-item.is c.lists-item.is c.version-item.is in
-    if_none c.from_residual-in_err-lists.result (λ slots lists version asks.
-    let third = third_of_four _ _ _ _ _ _ _ _ (sym asks.asked ∙ ap (map string_bytes) words) in
-    c.in_err-lists.ensures.none lists
-    (subst (λ (most : ℕ). IsNumberUpTo most c.as_bytes-2.result.now lists) (sym c.from.ensures)
-    (subst (λ (w : List ℕ). IsNumberUpTo MAX_LISTS w lists) (third ∙ sym c.as_bytes-2.ensures.value)
-    asks.lists_word)))
-
--- a word that stands for no version
+-- the last word stands for no version
 pub returns-in_err-version-clause-none : goal.returns-in_err-version-clause-none
 returns-in_err-version-clause-none c =
-    let words = four c.args.words.now c.command-item.result c.slots-item.result c.lists-item.result
-    c.version-item.result (omega arith) c.command-item.is c.slots-item.is c.lists-item.is c.version-item.is in
     if_none c.from_residual-in_err-version.result (λ slots lists version asks.
-    let fourth = fourth_of_four _ _ _ _ _ _ _ _ (sym asks.asked ∙ ap (map string_bytes) words) in
     c.in_err-version.ensures.none version
-    (subst (λ (most : ℕ). IsNumberUpTo most c.as_bytes-3.result.now version) (sym c.from-2.ensures)
-    (subst (λ (w : List ℕ). IsNumberUpTo NEWEST_VERSION w version) (fourth ∙ sym c.as_bytes-3.ensures.value)
-    asks.version_word)))
+    (subst (λ (most : ℕ). IsNumberUpTo most c.as_bytes.result.now version) (sym c.from.ensures)
+    (subst (λ (w : List ℕ). IsNumberUpTo NEWEST_VERSION w version)
+    (sym (c.as_bytes.ensures.value ∙ (parts _ _ _ c.in_ok-last.ensures.cases.0 asks).1)) asks.version_word)))

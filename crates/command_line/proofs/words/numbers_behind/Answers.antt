@@ -1,17 +1,25 @@
 -- There are three words, and they are the three that were read.
 use Rattle.std.proofs.Common.{◌≡◌, ℕ, List, [], ◌∷◌, map, sym, ap, subst, ◌∙◌, arith}
-use Rattle.std.specs.Prelude.{codes}
 use Rattle.std.specs.String.{string_bytes}
 use Rattle.cell_types.specs.declared.geometry.TheConstants.{MAX_LISTS, MAX_SLOTS}
-use Rattle.worm_device.proofs.Compared.{alike}
+use Rattle.worm_device.proofs.Compared.{alike, differ}
 use Rattle.command_line.specs.Words.{IsNumberUpTo}
-use Rattle.command_line.proofs.Listed.{if_none, second_is, third_is, three}
-use Rattle.record_top.proofs.copy_words.numbers_of.Goals as goal
+use Rattle.command_line.proofs.Listed.{first_of_three, if_none, second_is, third_is, three}
+use Rattle.command_line.proofs.words.numbers_behind.Goals as goal
+
+-- another name
+pub returns-then-ne-clause-none : goal.returns-then-ne-clause-none
+returns-then-ne-clause-none c =
+    let words = three c.args.words.now c.command-item.result c.slots-item.result c.lists-item.result (omega arith)
+    c.command-item.is c.slots-item.is c.lists-item.is in
+    λ slots lists asks.
+    differ c.as_str.result.now c.args.name.now c.ne.result c.ne.ensures c.if-ne.true
+    (c.as_str.ensures.value ∙ first_of_three _ _ _ _ _ _ (sym (ap (map string_bytes) words) ∙ asks.asked))
 
 pub returns-clause-some : goal.returns-clause-some
 returns-clause-some c =
-    let same = alike c.as_str.result.now (codes "copy") c.ne.result c.ne.ensures c.if-ne.false in
-    let command : string_bytes c.command-item.result ≡ codes "copy" = sym c.as_str.ensures.value ∙ same in
+    let same = alike c.as_str.result.now c.args.name.now c.ne.result c.ne.ensures c.if-ne.false in
+    let command : string_bytes c.command-item.result ≡ c.args.name.now = sym c.as_str.ensures.value ∙ same in
     let first = c.slots-item.result in
     let second = c.lists-item.result in
     let words = three c.args.words.now c.command-item.result first second (omega arith) c.command-item.is
