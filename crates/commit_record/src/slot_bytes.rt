@@ -126,13 +126,19 @@ fn names_document(cells: u32, bytes: &[u8]) -> bool
     if MAX_STORED_BYTES < size {
         return false;
     }
-    // So many cells the journal has behind its first one, of which it has one at least.
+    // So many cells the journal has behind its first one. Where it has none at all, these are more than any pool has.
     let more = number_at(bytes, 21).wrapping_sub(1);
-    if cells <= more {
-        return false;
-    }
-    // Fifteen bytes of the document go into a cell.
-    u64::from(size) + 15 <= 15 * u64::from(cells - more)
+    has_room(size, cells, more)
+}
+
+/// Whether a document of so many bytes, fifteen a cell, and a journal of a cell and so many more fit into so many
+/// cells. Where the journal alone is too long, the room is negative. A product takes less than a quotient.
+#[inline]
+fn has_room(size: u32, cells: u32, more: u32) -> bool
+    ensures { IsTrue result → size + 15 + 15 * more ≤ 15 * cells }
+{
+    let room = i64::from(cells) - i64::from(more);
+    i64::from(size) + 15 <= 15 * room
 }
 
 /// The seconds that the spare cell names.

@@ -12,6 +12,5 @@ returns c = λ same.
     let whole : take (length b - 33) (drop 33 b) ≡ drop 33 b =
     take_all (length b - 33) (drop 33 b) (omega (arith, length-drop 33 b)) in
     word_of_slot (drop 33 b) c.args.slot (omega (arith, length-drop 33 b, c.requires))
-    (record { each = λ i. omega (arith, get_or-drop 33 b i 0, (c.type_inv.bytes (i + 33)).fits, (c.type_inv.bytes (33 + i)).fits) })
-    c.ranges.slot.fits
+    (record { each = λ i. omega (arith, get_or-drop 33 b i 0, (c.type_inv.bytes (33 + i)).fits) }) c.ranges.slot.fits
     (ap (little_number 8) (sym whole) ∙ sym c.read_u64.ensures ∙ equal ∙ c.from.ensures ∙ c.swap_bytes.ensures)
