@@ -9,4 +9,5 @@ pub mod LooksAsOne
 pub mod OneState
 pub mod RowSeen
 pub mod RowStates
+mod SlotWord
 pub mod StampRead

@@ -1,6 +1,6 @@
 //! A slot by the bytes of its four cells, which are the first of a row. Where it is done they are compared as numbers,
 //! and no cell is decoded.
-ghost use Rattle.std.specs.Prelude.{◌≡◌, ◌<◌, ◌≤◌, ◌+◌, ◌*◌, IfSome, IsTrue, drop, length, take};
+ghost use Rattle.std.specs.Prelude.{◌≡◌, ◌<◌, ◌≤◌, ◌+◌, ◌*◌, ◌++◌, IfSome, IsTrue, drop, length, replicate, take};
 ghost use Rattle.byteorder.specs.Endian.{big_bytes};
 ghost use Rattle.cell_types.specs.Layout as layout;
 ghost use Rattle.cell_types.specs.declared.geometry.TheConstants.{MAX_SLOTS};
@@ -86,7 +86,7 @@ fn is_framed(slot: u32, bytes: &[u8]) -> bool
     if !holds_word(bytes, 25, 256 * (reserve_at + 1) + DONE) {
         return false;
     }
-    if !holds_word(bytes, 33, 4_294_967_296 * u64::from(slot)) {
+    if !holds_slot(bytes, slot) {
         return false;
     }
     if !holds_word(bytes, 41, 256 * (reserve_at + 2) + STAMP) {
@@ -126,12 +126,19 @@ fn names_document(cells: u32, bytes: &[u8]) -> bool
     if MAX_STORED_BYTES < size {
         return false;
     }
-    let journal = number_at(bytes, 21);
-    if journal == 0 {
-        return false;
-    }
-    // Fifteen bytes of the document go into a cell.
-    u64::from((size + 14) / 15) + u64::from(journal) <= u64::from(cells)
+    // So many cells the journal has behind its first one. Where it has none at all, these are more than any pool has.
+    let more = number_at(bytes, 21).wrapping_sub(1);
+    has_room(size, cells, more)
+}
+
+/// Whether a document of so many bytes, fifteen a cell, and a journal of a cell and so many more fit into so many
+/// cells. Where the journal alone is too long, the room is negative. A product takes less than a quotient.
+#[inline]
+fn has_room(size: u32, cells: u32, more: u32) -> bool
+    ensures { IsTrue result → size + 15 + 15 * more ≤ 15 * cells }
+{
+    let room = i64::from(cells) - i64::from(more);
+    i64::from(size) + 15 <= 15 * room
 }
 
 /// The seconds that the spare cell names.
@@ -163,4 +170,13 @@ fn holds_word(bytes: &[u8], at: usize, number: u64) -> bool
     ensures { IsTrue result → take 8 (drop at bytes.now) ≡ big_bytes 8 number }
 {
     LittleEndian::read_u64(&bytes[at..]) == number.swap_bytes()
+}
+
+/// Whether the numbers of the third cell are a slot's and zero. Only half of the word has to be turned.
+#[inline]
+fn holds_slot(bytes: &[u8], slot: u32) -> bool
+    requires { 41 ≤ length bytes.now }
+    ensures { IsTrue result → take 8 (drop 33 bytes.now) ≡ big_bytes 4 slot ++ replicate 4 0 }
+{
+    LittleEndian::read_u64(&bytes[33..]) == u64::from(slot.swap_bytes())
 }
