@@ -1,5 +1,5 @@
 -- Which stamps the done slots of a volume have, as a reader of the log answers it, and whether another is past them.
-use Rattle.std.specs.Prelude.{◌≡◌, ◌<◌, ◌≤◌, ◌⊎◌, ℕ, Option, None, Some, Result, Ok, Err, IsTrue, ⊤}
+use Rattle.std.specs.Prelude.{◌≡◌, ◌<◌, ◌≤◌, ◌⊎◌, ℕ, ℤ, pos, negsuc, Option, None, Some, Result, Ok, Err, IsTrue, ⊤}
 use Rattle.cell_types.specs.Image.{Image}
 use Rattle.cell_types.specs.Layout.{Layout}
 use Rattle.cell_types.specs.declared.refusal.Evidence.{Evidence}
@@ -29,6 +29,11 @@ abbrev pub IsStampUpTo : Option ℕ → Option ℕ → Type 0
 IsStampUpTo None last = ⊤
 IsStampUpTo (Some first) None = ⊥
 IsStampUpTo (Some first) (Some last) = first ≤ last
+
+-- the stamp that a signed number is of: none, where it is below zero
+abbrev pub stamp_of_number : ℤ → Option ℕ
+stamp_of_number (pos seconds) = Some seconds
+stamp_of_number (negsuc below) = None
 
 -- each done slot from one on, and below n, has a stamp of at most so many seconds; where that is none, there is no such
 -- slot

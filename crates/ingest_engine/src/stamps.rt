@@ -1,12 +1,11 @@
 //! Whether the stamp of a document is past those of the volume.
-ghost use Rattle.std.specs.Prelude.{◌≡◌, ◌<◌, ◌≤◌, ◌+◌, ◌*◌, ◌⊎◌, length};
+ghost use Rattle.std.specs.Prelude.{◌≡◌, ◌<◌, ◌≤◌, ◌+◌, ◌*◌, ◌⊎◌, ◌<ℤ◌, Some, length, pos};
 ghost use Rattle.worm_device.specs.Views.{ViewState};
-ghost use Rattle.cell_types.specs.Layout as layout;
 ghost use Rattle.commit_record.specs.SlotBytes.{ReadsSlotBytes};
 ghost use Rattle.commit_record.specs.SlotCells.{ReadsSlots};
 ghost use Rattle.recovery_engine.specs.Settling.{LiesInBounds};
 ghost use Rattle.ingest_engine.specs.Indexing.{LooksPast, ReadsOnDevice};
-ghost use Rattle.ingest_engine.specs.Stamps.{AddsStamps, IsStampUpTo, PastLast, ReadsStamps};
+ghost use Rattle.ingest_engine.specs.Stamps.{AddsStamps, IsStampUpTo, PastLast, ReadsStamps, stamp_of_number};
 ghost use Rattle.ingest_engine.specs.declared.stamps.TheConstants.{ROW_SLOTS};
 
 use cell_types::{Cell, Fault, Geometry, Refusal, Volume};
@@ -113,39 +112,24 @@ fn latest_in_row(
     // Known of a layout once it is asked for.
     let _slots = geometry.slots();
     let pool_at = geometry.pool_at();
-    let mut last = greatest;
+    let mut last = as_number(greatest);
     let mut left = count as usize;
     while left > 0 {
         left -= 1;
+        let slot = first + left as u32;
         let bytes = &row[SLOT_BYTES * left..];
-        last = with_slot(geometry, pool_at, first + left as u32, bytes, last)?;
+        // Most slots are done, so that is asked first. The cells of another are made here, as a call that takes its
+        // bytes costs each slot two instructions, called or not.
+        if let Some(stamp) = done_stamp(geometry, pool_at, slot, bytes) {
+            last = later_number(last, stamp);
+            continue;
+        }
+        last = as_number(with_cells(geometry, slot, &cells_of_slot(bytes), as_stamp(last))?);
     }
-    Ok(last)
+    Ok(as_stamp(last))
 }
 
-/// The later one of a stamp and that of a slot, if the slot is done. The bytes of its cells are the first of a row that
-/// was read. Most slots are done, so that is asked first.
-#[inline]
-fn with_slot(
-    geometry: &Geometry,
-    pool_at: u32,
-    slot: u32,
-    bytes: &[u8],
-    greatest: Option<u32>,
-) -> Result<Option<u32>, Fault>
-    requires slot { slot < geometry.now.slots }
-    requires pool { pool_at ≡ layout.pool_at geometry.now }
-    requires four { 64 ≤ length bytes.now }
-    ensures { (old new : ViewState) → ReadsSlotBytes slot bytes.now old new
-        → AddsStamps geometry.now slot (slot + 1) greatest old new result }
-{
-    let Some(stamp) = done_stamp(geometry, pool_at, slot, bytes) else {
-        return with_cells(geometry, slot, &cells_of_slot(bytes), greatest);
-    };
-    Ok(later_of(greatest, Some(stamp)))
-}
-
-/// The same by what the slot's cells hold, the first of a row.
+/// The later one of a stamp and that of a slot, if the slot is done, by what its cells hold, the first of a row.
 #[cold]
 fn with_cells(
     geometry: &Geometry,
@@ -163,6 +147,40 @@ fn with_cells(
     };
     let stamp = stamp_of_row(geometry, slot, row);
     Ok(later_of(greatest, stamp))
+}
+
+/// A stamp as a number that is below each stamp's where there is none. Two of them are compared by one look.
+fn as_number(stamp: Option<u32>) -> i64
+    ensures same { stamp_of_number result ≡ stamp }
+    ensures small { result <ℤ pos 4294967296 }
+{
+    let Some(seconds) = stamp else {
+        return -1;
+    };
+    i64::from(seconds)
+}
+
+/// The stamp that such a number is of, if it is of one.
+fn as_stamp(number: i64) -> Option<u32>
+    requires { number <ℤ pos 4294967296 }
+    ensures { result ≡ stamp_of_number number }
+{
+    let Ok(seconds) = u32::try_from(number) else {
+        return None;
+    };
+    Some(seconds)
+}
+
+/// The number of the later one of two stamps.
+fn later_number(number: i64, stamp: u32) -> i64
+    requires { number <ℤ pos 4294967296 }
+    ensures small { result <ℤ pos 4294967296 }
+    ensures first { IsStampUpTo (stamp_of_number number) (stamp_of_number result) }
+    ensures second { IsStampUpTo (Some stamp) (stamp_of_number result) }
+    ensures either { (stamp_of_number result ≡ stamp_of_number number)
+        ⊎ (stamp_of_number result ≡ Some stamp) }
+{
+    number.max(i64::from(stamp))
 }
 
 /// The later one of two stamps.
