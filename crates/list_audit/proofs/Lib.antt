@@ -2,8 +2,10 @@ mod AllLed
 pub mod Blank
 pub mod Closing
 pub mod EachBlock
+mod Ending
 mod Following
 pub mod Holding
+mod Numbering
 pub mod RowsListed
 pub mod Ordered
 pub mod Owing
