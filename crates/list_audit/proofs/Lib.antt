@@ -14,6 +14,6 @@ pub mod Spelling
 pub mod Stepping
 pub mod Tabling
 mod Sharing
-mod Taking
+pub mod Taking
 pub mod Trailing
 pub mod Walking

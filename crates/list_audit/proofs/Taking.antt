@@ -129,14 +129,14 @@ module _ {found : FoundBlocks} (are : AreFound found) where
         (cases_order s.one s.other)
 
 -- a number of a set with one number more
-more_numbers : (old new : BTreeSet ℕ) (key : ℕ) → SetUpdates nat_cmp old new key true → (q : ℕ) → contains nat_cmp new q ≡ true
+pub more_numbers : (old new : BTreeSet ℕ) (key : ℕ) → SetUpdates nat_cmp old new key true → (q : ℕ) → contains nat_cmp new q ≡ true
     → (q ≡ key) ⊎ (contains nat_cmp old q ≡ true)
 more_numbers old new key updates q has = let at = updates.0 q in grind (arith, nat_tests)
 
-same_number : (old new : BTreeSet ℕ) (key : ℕ) → SetUpdates nat_cmp old new key true → contains nat_cmp new key ≡ true
+pub same_number : (old new : BTreeSet ℕ) (key : ℕ) → SetUpdates nat_cmp old new key true → contains nat_cmp new key ≡ true
 same_number old new key updates = updates.1
 
-kept_number : (old new : BTreeSet ℕ) (key : ℕ) → SetUpdates nat_cmp old new key true → (q : ℕ) → contains nat_cmp old q ≡ true
+pub kept_number : (old new : BTreeSet ℕ) (key : ℕ) → SetUpdates nat_cmp old new key true → (q : ℕ) → contains nat_cmp old q ≡ true
     → contains nat_cmp new q ≡ true
 kept_number old new key updates q has = let at = updates.0 q in grind (arith, nat_tests)
 
