@@ -20,4 +20,4 @@ pub use lists::{
 pub use slots::{
     broken_journal_again, broken_stray_again, broken_target_again, broken_tiling_again,
 };
-pub use trees::{broken_bucket_again, broken_child_again, broken_pointer_again};
+pub use trees::{broken_bucket_again, broken_child_again, broken_pointer_again, nodes_of_again};

@@ -1,6 +1,6 @@
 //! The blocks of lists, their entries and trails.
 ghost use Rattle.std.specs.Prelude.{◌≡◌, IfNone, IfOk, IfSome, Some};
-ghost use Rattle.list_audit.specs.Blocks.{AreBlocksForTwo, AreListBlocks, AreNumbered};
+ghost use Rattle.list_audit.specs.Blocks.{AreBlocksForTwo, AreListBlocks};
 ghost use Rattle.list_audit.specs.Owed.{IsAllOwed};
 ghost use Rattle.log_audit.specs.KeptVolumes.{FindsIn, IsStated, KeepsBelow, image_in};
 ghost use Rattle.log_audit.specs.Findings.{FindsBroken};
@@ -12,8 +12,8 @@ ghost use Rattle.volume_meaning.specs.Volumes.{Holds};
 use cell_types::{Evidence, Geometry, NoMemory};
 use host_ports::Meter;
 use list_audit::{
-    ListBlock, ListBlocks, OwedPostings, blocks_for_two, blocks_of, first_broken_entry,
-    first_broken_posting, first_broken_trail, posting_at,
+    ListBlocks, OwedPostings, blocks_for_two, blocks_of, first_broken_entry, first_broken_posting,
+    first_broken_trail, posting_at,
 };
 use log_audit::{KeptCells, KeptVolume};
 use std::alloc::Global;
@@ -24,8 +24,8 @@ pub fn blocks_of_again(
     alloc: Global,
     kept: &KeptCells,
     geometry: &Geometry,
-) -> Result<Vec<ListBlock>, NoMemory>
-    ensures { IfOk result (λ blocks. AreListBlocks geometry.now (image_of_kept kept.now) blocks.items) }
+) -> Result<ListBlocks, NoMemory>
+    ensures { IfOk result (λ blocks. AreListBlocks geometry.now (image_of_kept kept.now) blocks) }
 {
     blocks_of(alloc, kept, geometry)
 }
@@ -36,8 +36,7 @@ pub fn blocks_for_two_again(
     kept: &KeptCells,
     geometry: &Geometry,
 ) -> Result<ListBlocks, NoMemory>
-    ensures blocks { IfOk result (λ found. AreBlocksForTwo geometry.now (image_of_kept kept.now) found.blocks.items) }
-    ensures numbered { IfOk result (λ found. AreNumbered found.blocks.items found.numbers) }
+    ensures { IfOk result (λ blocks. AreBlocksForTwo geometry.now (image_of_kept kept.now) blocks) }
 {
     blocks_for_two(alloc, kept, geometry)
 }
@@ -46,7 +45,7 @@ pub fn blocks_for_two_again(
 pub fn broken_entry_again(
     kept: &KeptCells,
     geometry: &Geometry,
-    blocks: &[ListBlock],
+    blocks: &ListBlocks,
 ) -> Option<Evidence>
     requires { AreBlocksForTwo geometry.now (image_of_kept kept.now) blocks.now }
     ensures { FindsBroken geometry.now (image_of_kept kept.now) Entries result }
@@ -71,8 +70,7 @@ pub fn broken_posting_again(
     owed: &OwedPostings,
 ) -> Result<Option<Evidence>, NoMemory>
     requires stated { IsStated volume.now }
-    requires blocks { AreBlocksForTwo volume.now.geometry (image_in volume.now) blocks.now.blocks.items }
-    requires numbered { AreNumbered blocks.now.blocks.items blocks.now.numbers }
+    requires blocks { AreBlocksForTwo volume.now.geometry (image_in volume.now) blocks.now }
     requires owed { IsAllOwed volume.now owed.now }
     requires met { KeepsBelow volume.now 9 }
     ensures { IfOk result (λ found. FindsIn volume.now Postings found) }

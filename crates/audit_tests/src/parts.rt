@@ -6,7 +6,7 @@ use log_audit::{KeptVolume, Shown, check_log, keep_cells};
 use slot_audit::{first_broken_document, first_broken_journal, first_broken_tiling};
 use std::alloc::Global;
 use std::test::Fail;
-use tree_audit::{LevelNode, nodes_of};
+use tree_audit::nodes_of;
 use worm_device::{Device, View};
 use worm_memory::MemoryDevice;
 
@@ -160,7 +160,7 @@ fn each_block_of_a_list_is_there_once(rt: HostRuntime) -> Result<(), Fail> {
         list,
         block,
     });
-    assert_eq!(rt; blocks.as_slice(), expected.as_slice());
+    assert_eq!(rt; blocks.blocks.as_slice(), expected.as_slice());
     Ok(())
 }
 
@@ -184,14 +184,14 @@ fn a_block_of_three_lists_is_there_for_two(rt: HostRuntime) -> Result<(), Fail> 
         assert_eq!(rt; *listed, ListBlock { list, block });
     }
     let all = blocks_of(rt.alloc(), &kept, &geometry)?;
-    assert_eq!(rt; all.len(), 9);
+    assert_eq!(rt; all.blocks.len(), 9);
     Ok(())
 }
 
 /// A child cell of the root leads to 700 and one of 700 to 640 and to itself; others lead before the pool and past the
 /// device, and two to one node.
 #[test]
-fn each_node_is_there_once_a_level(rt: HostRuntime) -> Result<(), Fail> {
+fn each_node_is_there_once(rt: HostRuntime) -> Result<(), Fail> {
     let cells = [
         (576, leading(9, 700, 576)),
         (577, leading(9, 548, 577)),
@@ -204,12 +204,27 @@ fn each_node_is_there_once_a_level(rt: HostRuntime) -> Result<(), Fail> {
     let kept = keep_cells(rt.alloc(), &mut device)?;
     let geometry = Geometry::new(8, 2, 1_000, 1).ok_or("no volume")?;
     let nodes = nodes_of(rt.alloc(), &kept, &geometry)?;
-    // The root; 700 at each level from 1 to 63; 640 at each from 2 on.
-    assert_eq!(rt; nodes.len(), 126);
-    let first = [(0, 548), (1, 700), (2, 640), (2, 700), (3, 640)];
-    for ((level, node), found) in first.into_iter().zip(&nodes) {
-        assert_eq!(rt; *found, LevelNode { level, node });
-    }
+    // The root; 640 at each level from 2 to 63; and 700 at each from 1 on.
+    assert_eq!(rt; nodes.nodes.as_slice(), [548, 640, 700].as_slice());
+    assert_eq!(rt; nodes.last.as_slice(), [640, 700].as_slice());
+    Ok(())
+}
+
+/// A child cell of the root leads to 700, one of 700 to 640, and one of 640 to 700: so 700 is at each odd level, 640 at each
+/// even one, and no level has the nodes of the one above.
+#[test]
+fn a_node_of_each_other_level_is_one_of_the_last(rt: HostRuntime) -> Result<(), Fail> {
+    let cells = [
+        (576, leading(9, 700, 576)),
+        (716, leading(9, 640, 716)),
+        (656, leading(9, 700, 656)),
+    ];
+    let mut device = device_with(rt.alloc(), &cells, &[])?;
+    let kept = keep_cells(rt.alloc(), &mut device)?;
+    let geometry = Geometry::new(8, 2, 1_000, 1).ok_or("no volume")?;
+    let nodes = nodes_of(rt.alloc(), &kept, &geometry)?;
+    assert_eq!(rt; nodes.nodes.as_slice(), [548, 640, 700].as_slice());
+    assert_eq!(rt; nodes.last.as_slice(), [700].as_slice());
     Ok(())
 }
 

@@ -9,7 +9,7 @@ use Rattle.cell_types.specs.declared.record_cell.RecordCell.TheVariants.{Jump}
 use Rattle.volume_meaning.proofs.Holding.{one_record_holds}
 use Rattle.volume_meaning.specs.Blocks.{Leads, arrived, onwards}
 use Rattle.volume_meaning.specs.Nodes.{IsBlockOf}
-use Rattle.list_audit.specs.Blocks.{IsAmongBlocks, IsShared, IsTaken, AreOnce, AreTakenBlocks, PointsTo, AddsBlock, LeadsAmong, AreClosedBelow}
+use Rattle.list_audit.specs.Blocks.{IsAmongBlocks, IsShared, IsTaken, AreTaken, PointsTo, AddsBlock, LeadsAmong, AreClosedBelow}
 use Rattle.list_audit.specs.declared.listed.ListBlock.{ListBlock}
 use Rattle.list_audit.proofs.Taking.{taken_more}
 
@@ -197,9 +197,8 @@ module _ {for_two : Bool} {g : Layout} {image : Image} {n : ℕ} {blocks : List 
       (taken_leads l start (127 + 15 * level + digit) target taken (omega arith) (omega arith) (record { held = jump; from = low; to = high }))
 
   -- where no block is left each was taken
-  pub all_found : AreOnce blocks → AreTakenBlocks for_two g image blocks
-  all_found once = record {
+  pub all_found : AreTaken for_two g image blocks
+  all_found = record {
     each = below.reached;
     all = λ l block is. taken_from l block (list_at g l) is.leads (below.firsts l is.list);
-    once = once;
   }

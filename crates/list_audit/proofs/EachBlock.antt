@@ -1,7 +1,7 @@
 -- A rule that asks the same of the cells of each block: found by going through the blocks of all lists in any order.
-use Rattle.std.proofs.Common.{◌≡◌, ◌≤◌, ◌<◌, ◌+◌, ⊎_elim, ℕ, List, length, Option, Some, None, sym, ◌∙◌, subst, arith}
-use Rattle.std.specs.Prelude.{slice_get}
-use Rattle.std.proofs.lemmas.Option.{slice_get_within}
+use Rattle.std.proofs.Common.{◌≡◌, ◌≤◌, ◌<◌, ◌+◌, ⊎_elim, ℕ, List, length, get_or, Option, Some, None, true, false, sym, ◌∙◌, subst, arith}
+use Rattle.std.specs.Prelude.{IsTrue, slice_get}
+use Rattle.std.proofs.lemmas.Option.{slice_get_within, slice_get-get_or}
 use Rattle.cell_types.specs.Image.{Image}
 use Rattle.cell_types.specs.Layout.{Layout}
 use Rattle.cell_types.specs.declared.refusal.Evidence.{Evidence}
@@ -12,6 +12,7 @@ use Rattle.log_audit.specs.Findings.{FindsBroken}
 use Rattle.log_audit.specs.Least.{FindsPart, LiesBehind, lower_finding}
 use Rattle.log_audit.proofs.Parts.{AskedBelow, as_asked, one_part, part_behind, finds_all}
 use Rattle.list_audit.specs.Blocks.{AreBlocksForTwo, AreListBlocks, AreOfLists, AskedOf, IsAmongBlocks, IsShared}
+use Rattle.list_audit.specs.declared.found.ListBlocks.{ListBlocks}
 use Rattle.list_audit.specs.declared.listed.ListBlock.{ListBlock}
 
 -- what is asked of a cell on account of the block at this place
@@ -33,18 +34,28 @@ pub asked_of : (Asks : ℕ → ℕ → ℕ → Type 0) {blocks : List ListBlock}
 asked_of Asks cell asked a =
     subst (λ (m : ℕ). Asks m _ cell) a.list (subst (λ (c : ℕ). Asks a.one.list c cell) a.is (asked a.place a.one a.there))
 
+-- the block of a turn
+pub block_here : (items blocks : List ListBlock) (i : ℕ) → items ≡ blocks → i < length items
+    → slice_get blocks i ≡ Some (get_or items i (record { list = 0; block = 0 }))
+block_here items blocks i same inside =
+    subst (λ (rows : List ListBlock). slice_get rows i ≡ Some (get_or items i (record { list = 0; block = 0 }))) same
+    (slice_get-get_or items i (record { list = 0; block = 0 }) inside)
+
 -- blocks of all lists decide
-pub all_decide : {g : Layout} {image : Image} {blocks : List ListBlock} (Asks : ℕ → ℕ → ℕ → Type 0) → AreListBlocks g image blocks
-    → DecideAll g image blocks Asks
-all_decide Asks are cell written asked l block is = asked_of Asks cell (asked cell (omega arith) written) (are.all l block is)
+pub all_decide : {g : Layout} {image : Image} {found : ListBlocks} (Asks : ℕ → ℕ → ℕ → Type 0) → AreListBlocks g image found
+    → DecideAll g image found.blocks.items Asks
+all_decide {g} {image} {found} Asks are cell written asked l block is = ⊎_elim
+    (λ (among : IsAmongBlocks found.blocks.items l block). asked_of Asks cell (asked cell (omega arith) written) among)
+    (λ (shared : IsTrue false × IsShared found.blocks.items block). let clash : false ≡ true = shared.0 in absurd cc)
+    (are.taken.all l block is)
 
 -- so do those for two of what is asked of a block whose ever it is
-pub two_decide : {g : Layout} {image : Image} {blocks : List ListBlock} (Asks : ℕ → ℕ → Type 0) → AreBlocksForTwo g image blocks
-    → DecideAll g image blocks (λ (_ block : ℕ). Asks block)
-two_decide {g} {image} {blocks} Asks are cell written asked l block is = ⊎_elim
-    (λ (among : IsAmongBlocks blocks l block). asked_of (λ (_ block : ℕ). Asks block) cell (asked cell (omega arith) written) among)
-    (λ (shared : IsShared blocks block). asked_of (λ (_ block : ℕ). Asks block) cell (asked cell (omega arith) written) shared.first)
-    (are.all l block is)
+pub two_decide : {g : Layout} {image : Image} {found : ListBlocks} (Asks : ℕ → ℕ → Type 0) → AreBlocksForTwo g image found
+    → DecideAll g image found.blocks.items (λ (_ block : ℕ). Asks block)
+two_decide {g} {image} {found} Asks are cell written asked l block is = ⊎_elim
+    (λ (among : IsAmongBlocks found.blocks.items l block). asked_of (λ (_ block : ℕ). Asks block) cell (asked cell (omega arith) written) among)
+    (λ (shared : IsTrue true × IsShared found.blocks.items block). asked_of (λ (_ block : ℕ). Asks block) cell (asked cell (omega arith) written) shared.1.first)
+    (are.taken.all l block is)
 
 module _ (g : Layout) (image : Image) (rule : Rule) (blocks : List ListBlock) (Asks : ℕ → ℕ → ℕ → Type 0) where
   -- one block more
@@ -92,11 +103,3 @@ module _ (g : Layout) (image : Image) (rule : Rule) (blocks : List ListBlock) (A
         broken = λ all. p.broken (λ i b there. all b.list b.block (each i b there));
         below = λ cell less written. decide cell written (λ lower low is. p.below lower (omega (arith, less, low)) is);
       }
-
-  -- all blocks, where each is listed
-  pub every_block : (n : ℕ) (least : Option Evidence) → AreListBlocks g image blocks
-      → FindsPart g image rule (AskedBelow (BlockAt blocks Asks) n) least → length blocks ≤ n
-      → ((cell : ℕ) → AskedOfAll g image Asks cell → IsMet g image rule cell)
-      → ((cell : ℕ) → IsMet g image rule cell → AskedOfAll g image Asks cell)
-      → FindsBroken g image rule least
-  every_block n least are finds past = decided are.each (all_decide Asks are) least (each_block n least finds past)

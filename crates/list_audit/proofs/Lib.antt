@@ -2,8 +2,10 @@ mod AllLed
 pub mod Blank
 pub mod Closing
 pub mod EachBlock
+mod Ending
 mod Following
 pub mod Holding
+mod Numbering
 pub mod RowsListed
 pub mod Ordered
 pub mod Owing
@@ -12,6 +14,6 @@ pub mod Spelling
 pub mod Stepping
 pub mod Tabling
 mod Sharing
-mod Taking
+pub mod Taking
 pub mod Trailing
 pub mod Walking

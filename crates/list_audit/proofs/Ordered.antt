@@ -11,7 +11,7 @@ use Rattle.volume_meaning.specs.Volumes.{Holds}
 use Rattle.tamper_rules.specs.Rules.{Entries, EntryRule, HoldsInOrder, IsPlace}
 use Rattle.list_audit.specs.Entries.{BlockAsks}
 
-is_less : (a b : ℕ) → a < b → IsTrue (nat_lt a b)
+pub is_less : (a b : ℕ) → a < b → IsTrue (nat_lt a b)
 is_less a b h = grind (arith, nat_tests)
 
 pub less_is : (a b : ℕ) → IsTrue (nat_lt a b) → a < b

@@ -1,5 +1,5 @@
 -- Where two lists of a block suffice for rule 9.
-use Rattle.std.specs.Prelude.{◌<◌, ℕ, List}
+use Rattle.std.specs.Prelude.{◌≡◌, ◌⊎◌, ℕ, List}
 use Rattle.cell_types.specs.Image.{Image}
 use Rattle.cell_types.specs.Layout.{Layout}
 use Rattle.volume_meaning.specs.Blocks.{PostingFields, posting_record}
@@ -18,10 +18,11 @@ pub record IsForeign (g : Layout) (image : Image) (blocks : List ListBlock) (blo
 abbrev pub BeginsForeign : Layout → Image → List ListBlock → ℕ → Type 0
 BeginsForeign g image blocks block = (p : PostingFields) → Holds image block (posting_record p) → IsForeign g image blocks block p
 
--- so it is if a lower list than this one has the block among these
-abbrev pub IsDecided : Layout → Image → List ListBlock → ListBlock → Type 0
-IsDecided g image blocks b = (l : ℕ) → l < b.list → IsAmongBlocks blocks l b.block → BeginsForeign g image blocks b.block
+-- so it is, where these are one block, to the list of one of them
+abbrev pub IsDecided : Layout → Image → ListBlock → ListBlock → Type 0
+IsDecided g image before b = before.block ≡ b.block → (p : PostingFields) → Holds image b.block (posting_record p)
+    → (IsPostingOwed g image before.list p → ⊥) ⊎ (IsPostingOwed g image b.list p → ⊥)
 
--- and so if two have
+-- and so it is if two lists have the block
 abbrev pub AreDecided : Layout → Image → List ListBlock → Type 0
 AreDecided g image blocks = (block : ℕ) → IsShared blocks block → BeginsForeign g image blocks block

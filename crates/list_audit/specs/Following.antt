@@ -6,6 +6,7 @@ use Rattle.cell_types.specs.Image.{Image}
 use Rattle.cell_types.specs.Layout.{Layout}
 use Rattle.list_audit.specs.Blocks.{IsTaken, PointsTo}
 use Rattle.list_audit.specs.Numbers.{block_number}
+use Rattle.list_audit.specs.declared.blocks.TheConstants.{BEHIND_POINTERS, FIRST_POINTER}
 use Rattle.list_audit.specs.declared.listed.ListBlock.{ListBlock}
 
 -- no block was followed
@@ -24,8 +25,8 @@ pub record IsFollowedAt (numbers : BTreeSet ℕ) (l at : ℕ) : Type 0 where
   pub small : block < 2 ^ 32
   pub followed : contains nat_cmp numbers (block_number l block) ≡ true
   pub pointer : ℕ
-  pub from : 128 ≤ pointer
-  pub to : pointer < 248
+  pub from : FIRST_POINTER ≤ pointer
+  pub to : pointer < BEHIND_POINTERS
   pub is : at ≡ block + pointer
 
 -- each block to which such a cell leads was taken, of the same list

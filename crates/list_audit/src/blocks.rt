@@ -6,7 +6,7 @@ ghost use Rattle.std.specs.Prelude.{◌≡◌, ◌<◌, ◌+◌, IfOk, OnOk, Som
 ghost use Rattle.cell_types.specs.Image.{Image};
 ghost use Rattle.cell_types.specs.Layout.{all_lists};
 ghost use Rattle.log_audit.specs.Kept.{image_of_kept};
-ghost use Rattle.list_audit.specs.Blocks.{AreListBlocks, AreBlocksForTwo, AreTakenBlocks, AreNumbered, AreClosedBelow, LeadsAmong};
+ghost use Rattle.list_audit.specs.Blocks.{AreBlocks, AreListBlocks, AreBlocksForTwo, AreClosedBelow, AreFound, AreTaken, LeadsAmong};
 ghost use Rattle.list_audit.specs.Following.{AreFollowed};
 
 use crate::followed::FollowedBlocks;
@@ -23,7 +23,7 @@ pub(crate) const FIRST_POINTER: u32 = 128;
 /// The place behind its last pointer place.
 pub(crate) const BEHIND_POINTERS: u32 = 248;
 
-/// The blocks of all lists, the time list among them, each of a list once. They come in no order.
+/// The blocks of all lists, the time list among them, each of a list once, by rising numbers.
 ///
 /// # Errors
 ///
@@ -32,15 +32,14 @@ pub fn blocks_of(
     alloc: Global,
     kept: &KeptCells,
     geometry: &Geometry,
-) -> Result<Vec<ListBlock>, NoMemory>
-    ensures { IfOk result (λ blocks. AreListBlocks geometry.now (image_of_kept kept.now) blocks.items) }
+) -> Result<ListBlocks, NoMemory>
+    ensures { IfOk result (λ blocks. AreListBlocks geometry.now (image_of_kept kept.now) blocks) }
 {
-    let found = found_blocks(alloc, kept, geometry, false)?;
-    Ok(found.blocks)
+    blocks_in_order(alloc, kept, geometry, false)
 }
 
 /// The blocks of all lists, the time list among them, each of a list once, and of two lists at most: a block to which
-/// more lists lead is one of two of them. They come in no order.
+/// more lists lead is one of two of them. They come by rising numbers.
 ///
 /// # Errors
 ///
@@ -50,26 +49,35 @@ pub fn blocks_for_two(
     kept: &KeptCells,
     geometry: &Geometry,
 ) -> Result<ListBlocks, NoMemory>
-    ensures blocks { IfOk result (λ found. AreBlocksForTwo geometry.now (image_of_kept kept.now) found.blocks.items) }
-    ensures numbered { IfOk result (λ found. AreNumbered found.blocks.items found.numbers) }
+    ensures { IfOk result (λ blocks. AreBlocksForTwo geometry.now (image_of_kept kept.now) blocks) }
 {
-    let found = found_blocks(alloc, kept, geometry, true)?;
-    Ok(ListBlocks {
-        blocks: found.blocks,
-        numbers: found.numbers,
-    })
+    blocks_in_order(alloc, kept, geometry, true)
 }
 
-/// The blocks of all lists, all or those for two.
+/// The blocks of all lists, all or those for two, by rising numbers.
+fn blocks_in_order(
+    alloc: Global,
+    kept: &KeptCells,
+    geometry: &Geometry,
+    for_two: bool,
+) -> Result<ListBlocks, NoMemory>
+    ensures { IfOk result (λ blocks. AreBlocks for_two geometry.now (image_of_kept kept.now) blocks) }
+{
+    let found = found_blocks(alloc, kept, geometry, for_two)?;
+    found.in_order(alloc)
+}
+
+/// The same in the order in which they are found.
 fn found_blocks(
     alloc: Global,
     kept: &KeptCells,
     geometry: &Geometry,
     for_two: bool,
 ) -> Result<FoundBlocks, NoMemory>
-    ensures blocks { IfOk result
-        (λ found. AreTakenBlocks for_two geometry.now (image_of_kept kept.now) found.blocks.items) }
-    ensures numbered { IfOk result (λ found. AreNumbered found.blocks.items found.numbers) }
+    ensures mode { IfOk result (λ found. found.for_two ≡ for_two) }
+    ensures taken { IfOk result
+        (λ found. AreTaken for_two geometry.now (image_of_kept kept.now) found.blocks.items) }
+    ensures found { IfOk result (λ found. AreFound found) }
 {
     let mut found = first_blocks(alloc, geometry, for_two)?;
     let mut followed = FollowedBlocks::none(alloc);
@@ -100,7 +108,7 @@ fn first_blocks(alloc: Global, geometry: &Geometry, for_two: bool) -> Result<Fou
     ensures mode { IfOk result (λ found. found.for_two ≡ for_two) }
     ensures closed { IfOk result
         (λ found. (image : Image) → AreClosedBelow for_two geometry.now image 0 found.blocks.items) }
-    ensures numbered { IfOk result (λ found. AreNumbered found.blocks.items found.numbers) }
+    ensures found { IfOk result (λ found. AreFound found) }
 {
     let mut found = FoundBlocks::none(alloc, for_two);
     for list in 0..list_count(geometry) {
@@ -120,7 +128,7 @@ fn add_targets(
     followed: &FollowedBlocks,
     found: &mut FoundBlocks,
 ) -> Result<(), NoMemory>
-    requires numbered { AreNumbered found.old.blocks.items found.old.numbers }
+    requires found { AreFound found.old }
     requires closed { AreClosedBelow found.old.for_two geometry.now (image_of_kept kept.now) turn found.old.blocks.items }
     requires here { slice_get found.old.blocks.items turn ≡ Some from.now }
     requires followed { AreFollowed found.old.for_two geometry.now (image_of_kept kept.now) followed.now.numbers
@@ -128,7 +136,7 @@ fn add_targets(
     ensures mode { found.new.for_two ≡ found.old.for_two }
     ensures closed { OnOk result
         (AreClosedBelow found.old.for_two geometry.now (image_of_kept kept.now) (turn + 1) found.new.blocks.items) }
-    ensures numbered { OnOk result (AreNumbered found.new.blocks.items found.new.numbers) }
+    ensures found { OnOk result (AreFound found.new) }
     ensures followed { OnOk result
         (AreFollowed found.old.for_two geometry.now (image_of_kept kept.now) followed.now.numbers found.new.blocks.items) }
     ensures leads { OnOk result

@@ -9,6 +9,7 @@ ghost use Rattle.list_audit.specs.Blocks.{AreBlocksForTwo};
 ghost use Rattle.list_audit.specs.Entries.{KeepsEntryRule, BlockAsks, PlacesAsk};
 
 use crate::blocks::{BEHIND_POINTERS, FIRST_POINTER};
+use crate::found::ListBlocks;
 use crate::held_posting::posting_at;
 use crate::listed::ListBlock;
 use cell_types::{Evidence, Geometry};
@@ -21,14 +22,14 @@ use volume_meaning::BLOCK_CELLS;
 pub fn first_broken_entry(
     kept: &KeptCells,
     geometry: &Geometry,
-    blocks: &[ListBlock],
+    blocks: &ListBlocks,
 ) -> Option<Evidence>
     requires { AreBlocksForTwo geometry.now (image_of_kept kept.now) blocks.now }
     ensures { FindsBroken geometry.now (image_of_kept kept.now) Entries result }
 {
     let mut least = None;
-    for block in blocks {
-        // Blocks may meet where cells were tampered with, and they do not come by rising cells.
+    for block in &blocks.blocks {
+        // Blocks may meet where cells were tampered with, and what lies behind was found.
         if lies_behind(&least, block.block) {
             continue;
         }

@@ -10,7 +10,7 @@ use std::alloc::Global;
 use std::collections::BTreeSet;
 
 /// How many pointer places a block has. Two blocks that begin so far apart have none in common.
-const POINTER_PLACES: u32 = 120;
+const POINTER_PLACES: u32 = BEHIND_POINTERS - FIRST_POINTER;
 
 /// The numbers of the blocks whose pointers were followed so far, 8 bytes each.
 #[derive(Drop)]
@@ -39,7 +39,7 @@ impl FollowedBlocks {
     /// The first pointer place of a block that is none of the last one before it of the same list.
     pub(crate) fn first_pointer_of(&self, listed: &ListBlock) -> u32
         ensures from { FIRST_POINTER ≤ result }
-        ensures passed { (pointer : ℕ) → 128 ≤ pointer → pointer < result
+        ensures passed { (pointer : ℕ) → FIRST_POINTER ≤ pointer → pointer < result
             → IsFollowedAt self.now.numbers listed.now.list (listed.now.block + pointer) }
     {
         let number = listed.number();
@@ -54,7 +54,7 @@ impl FollowedBlocks {
     pub(crate) fn behind_pointers_of(&self, listed: &ListBlock) -> u32
         requires { listed.now.block + 256 ≤ 2 ^ 32 }
         ensures most { result ≤ BEHIND_POINTERS }
-        ensures passed { (pointer : ℕ) → result ≤ pointer → pointer < 248
+        ensures passed { (pointer : ℕ) → result ≤ pointer → pointer < BEHIND_POINTERS
             → IsFollowedAt self.now.numbers listed.now.list (listed.now.block + pointer) }
     {
         let next = listed.number() + 1;

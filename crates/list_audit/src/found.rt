@@ -1,23 +1,24 @@
 //! Blocks that were found, each once.
-ghost use Rattle.std.specs.Prelude.{◌≡◌, IsTrue, OnOk, [], slice_get};
-ghost use Rattle.list_audit.specs.Blocks.{AreNumbered, AddsBlock, IsShared};
+ghost use Rattle.std.specs.Prelude.{◌≡◌, ◌↔◌, IfOk, IsTrue, OnOk, [], length, slice_get};
+ghost use Rattle.list_audit.specs.Blocks.{AddsBlock, AreDecoded, AreFound, AreInOrder, AreSmall, IsShared};
 
-use crate::between::{first_between, last_between};
+use crate::between::has_two_between;
 use crate::listed::{BLOCK_STEP, ListBlock};
 use cell_types::{NoMemory, memory};
+use log_audit::numbers_of;
 use std::alloc::Global;
 use std::collections::BTreeSet;
 
-/// Blocks of lists, in no order, and the numbers of the same: those of a block that more lists have are neighbours.
+/// Blocks of lists by rising numbers, and these numbers.
 #[derive(Drop)]
 pub struct ListBlocks {
     /// The blocks.
     pub blocks: Vec<ListBlock>,
-    /// Their numbers, 65,536 times the block plus the list.
-    pub numbers: BTreeSet<u64>,
+    /// The number of each, `BLOCK_STEP` times the block plus the list: those of the lists that have a block are neighbours.
+    pub numbers: Vec<u64>,
 }
 
-/// The blocks that were found so far, in the order in which they were, and the numbers of the same. Where each block is
+/// The blocks that were found so far, in the order in which they were, and their neighbour numbers. Where each block is
 /// listed for two, one that two lists have already is passed over.
 #[derive(Drop)]
 pub(crate) struct FoundBlocks {
@@ -31,7 +32,7 @@ impl FoundBlocks {
     pub(crate) fn none(alloc: Global, for_two: bool) -> FoundBlocks
         ensures mode { result.for_two ≡ for_two }
         ensures none { result.blocks.items ≡ [] }
-        ensures numbered { AreNumbered result.blocks.items result.numbers }
+        ensures found { AreFound result }
     {
         FoundBlocks {
             for_two,
@@ -52,11 +53,11 @@ impl FoundBlocks {
 
     /// Adds a block, unless it was found before.
     pub(crate) fn add(&mut self, found: ListBlock) -> Result<(), NoMemory>
-        requires { AreNumbered self.old.blocks.items self.old.numbers }
+        requires { AreFound self.old }
         ensures mode { self.new.for_two ≡ self.old.for_two }
         ensures adds { OnOk result
             (AddsBlock self.old.for_two found.list found.block self.old.blocks.items self.new.blocks.items) }
-        ensures numbered { OnOk result (AreNumbered self.new.blocks.items self.new.numbers) }
+        ensures found { OnOk result (AreFound self.new) }
     {
         if self.for_two && self.is_shared(found.block) {
             return Ok(());
@@ -71,17 +72,32 @@ impl FoundBlocks {
 
     /// Whether two lists have the block already.
     fn is_shared(&self, block: u32) -> bool
-        requires { AreNumbered self.now.blocks.items self.now.numbers }
-        ensures { IsTrue result → IsShared self.now.blocks.items block }
+        requires { AreFound self.now }
+        ensures { IsTrue result ↔ IsShared self.now.blocks.items block }
     {
         let from = u64::from(block) * BLOCK_STEP;
-        let behind = from + BLOCK_STEP;
-        let Some(first) = first_between(&self.numbers, from, behind) else {
-            return false;
-        };
-        let Some(last) = last_between(&self.numbers, from, behind) else {
-            return false;
-        };
-        first < last
+        has_two_between(&self.numbers, from, from + BLOCK_STEP)
     }
+
+    /// The blocks by rising numbers.
+    pub(crate) fn in_order(&self, alloc: Global) -> Result<ListBlocks, NoMemory>
+        requires { AreFound self.now }
+        ensures { IfOk result (λ ordered. AreInOrder self.now.blocks.items ordered) }
+    {
+        let numbers = numbers_of(alloc, &self.numbers)?;
+        let blocks = blocks_of_numbers(alloc, &numbers)?;
+        Ok(ListBlocks { blocks, numbers })
+    }
+}
+
+/// The blocks with these numbers.
+fn blocks_of_numbers(alloc: Global, numbers: &[u64]) -> Result<Vec<ListBlock>, NoMemory>
+    requires { AreSmall numbers.now }
+    ensures { IfOk result (λ blocks. AreDecoded numbers.now (length numbers.now) blocks.items) }
+{
+    let mut blocks = Vec::new(alloc);
+    for number in numbers {
+        memory::push(&mut blocks, ListBlock::of_neighbour_number(*number))?;
+    }
+    Ok(blocks)
 }

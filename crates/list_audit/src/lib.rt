@@ -54,7 +54,7 @@ pub use blocks::{blocks_for_two, blocks_of};
 pub use entries::first_broken_entry;
 pub use found::ListBlocks;
 pub use held_posting::posting_at;
-pub use listed::ListBlock;
+pub use listed::{BLOCK_STEP, ListBlock};
 pub use postings::first_broken_posting;
 pub use rules::first_broken_trail;
 pub use table::{OwedPostings, owed_postings};

@@ -5,17 +5,16 @@ ghost use Rattle.tamper_rules.specs.Rules.{Postings};
 ghost use Rattle.log_audit.specs.KeptVolumes.{FindsIn, FindsPartIn, IsStated, KeepsBelow, image_in};
 ghost use Rattle.log_audit.specs.Kept.{image_of_kept};
 ghost use Rattle.log_audit.specs.Least.{FindsPart};
-ghost use Rattle.list_audit.specs.Blocks.{AreBlocksForTwo, AreNumbered, AreOfLists, AskedOf, IsAmongBlocks};
+ghost use Rattle.list_audit.specs.Blocks.{AreBlocksForTwo, AreOfLists, AreRising, AskedOf};
 ghost use Rattle.list_audit.specs.Deciding.{AreDecided, IsDecided};
 ghost use Rattle.list_audit.specs.Owed.{IsAllOwed};
 ghost use Rattle.list_audit.specs.Owing.{AreOwed, BlockOwes};
 ghost use Rattle.list_audit.specs.Tables.{AreOrderedRows};
 
-use crate::between::first_between;
 use crate::blocks::blocks_of;
 use crate::found::ListBlocks;
 use crate::held_posting::posting_at;
-use crate::listed::{BLOCK_STEP, ListBlock};
+use crate::listed::ListBlock;
 use crate::table::{OwedPostings, PostingTable};
 use cell_types::{Evidence, Geometry, NoMemory};
 use log_audit::{KeptCells, KeptVolume, lies_behind, lower_of};
@@ -39,56 +38,53 @@ pub fn first_broken_posting(
     owed: &OwedPostings,
 ) -> Result<Option<Evidence>, NoMemory>
     requires stated { IsStated volume.now }
-    requires blocks { AreBlocksForTwo volume.now.geometry (image_in volume.now) blocks.now.blocks.items }
-    requires numbered { AreNumbered blocks.now.blocks.items blocks.now.numbers }
+    requires blocks { AreBlocksForTwo volume.now.geometry (image_in volume.now) blocks.now }
     requires owed { IsAllOwed volume.now owed.now }
     requires met { KeepsBelow volume.now 9 }
     ensures { IfOk result (λ found. FindsIn volume.now Postings found) }
 {
-    if are_decided(volume, blocks, owed) {
+    if are_decided(volume, &blocks.blocks, owed) {
         return Ok(least_fake(volume, &blocks.blocks, owed));
     }
     let all = blocks_of(alloc, &volume.kept, &volume.geometry)?;
-    Ok(least_fake(volume, &all, owed))
+    Ok(least_fake(volume, &all.blocks, owed))
 }
 
-/// Whether no block begins with a posting that is owed to two of its lists, as far as they are known.
-fn are_decided(volume: &KeptVolume, blocks: &ListBlocks, owed: &OwedPostings) -> bool
-    requires numbered { AreNumbered blocks.now.blocks.items blocks.now.numbers }
+/// Whether no block begins with a posting that is owed to two of its lists, as far as they are known. These stand one
+/// behind the other.
+fn are_decided(volume: &KeptVolume, blocks: &[ListBlock], owed: &OwedPostings) -> bool
+    requires rising { AreRising blocks.now }
     requires owed { IsAllOwed volume.now owed.now }
-    ensures { IsTrue result → AreDecided volume.now.geometry (image_in volume.now) blocks.now.blocks.items }
+    ensures { IsTrue result → AreDecided volume.now.geometry (image_in volume.now) blocks.now }
 {
-    for listed in &blocks.blocks {
-        if !is_decided(volume, blocks, listed, owed) {
+    for place in 1..blocks.len() {
+        if !is_decided(volume, &blocks[place - 1], &blocks[place], owed) {
             return false;
         }
     }
     true
 }
 
-/// Whether a block does not begin with a posting that is owed to its list and to the first of its lists.
+/// Whether two blocks are not one that begins with a posting which is owed to the lists of both.
 fn is_decided(
     volume: &KeptVolume,
-    blocks: &ListBlocks,
+    before: &ListBlock,
     listed: &ListBlock,
     owed: &OwedPostings,
 ) -> bool
-    requires numbered { AreNumbered blocks.now.blocks.items blocks.now.numbers }
-    requires among { IsAmongBlocks blocks.now.blocks.items listed.now.list listed.now.block }
     requires owed { IsAllOwed volume.now owed.now }
-    ensures { IsTrue result → IsDecided volume.now.geometry (image_in volume.now) blocks.now.blocks.items listed.now }
+    ensures { IsTrue result → IsDecided volume.now.geometry (image_in volume.now) before.now listed.now }
 {
-    let from = u64::from(listed.block) * BLOCK_STEP;
-    let Some(lower) = first_between(&blocks.numbers, from, listed.neighbour_number()) else {
+    if before.block != listed.block {
         return true;
-    };
+    }
     let Some(posting) = posting_at(&volume.kept, listed.block) else {
         return true;
     };
     let Some(_here) = owed.table.place_of(listed.list, &posting, 0) else {
         return true;
     };
-    let Some(_there) = owed.table.place_of((lower - from) as u16, &posting, 0) else {
+    let Some(_there) = owed.table.place_of(before.list, &posting, 0) else {
         return true;
     };
     false

@@ -1,5 +1,5 @@
 //! What stands in kept cells.
-ghost use Rattle.std.specs.Prelude.{◌≡◌, ◌<◌, ◌≤◌, ◌+◌, ◌*◌, ◌^◌, ℕ, IsTrue, Some, length, slice_get};
+ghost use Rattle.std.specs.Prelude.{◌≡◌, ◌<◌, ◌≤◌, ◌+◌, ◌*◌, ◌^◌, ◌↔◌, ℕ, IsTrue, Some, length, slice_get};
 ghost use Rattle.log_audit.specs.Cells.{shown_by, AreAllBetween, AreBlankBetween, AreRising, AreOnlyBetween};
 ghost use Rattle.log_audit.specs.AllRows.{all_rows};
 ghost use Rattle.log_audit.specs.Kept.{image_of_kept, count_of};
@@ -23,7 +23,7 @@ impl KeptCells {
 
     /// Whether no written cell is kept from one number on and below another.
     pub fn are_blank(&self, from: u32, behind: u32) -> bool
-        ensures { IsTrue result → AreBlankBetween (image_of_kept self.now) from behind }
+        ensures { IsTrue result ↔ AreBlankBetween (image_of_kept self.now) from behind }
     {
         let low = self.first_of((from / PAGE_CELLS) as usize);
         let high = self.last_of((behind / PAGE_CELLS) as usize);
@@ -103,7 +103,7 @@ fn no_row_between(rows: &ChunkedRows, from: usize, to: usize, first: u32, behind
     requires rising { AreRising (all_rows rows.now) }
     requires places { AreAllBetween (all_rows rows.now) from to first behind }
     requires within { to ≤ length (all_rows rows.now) }
-    ensures { IsTrue result → AreBlankBetween (shown_by (all_rows rows.now)) first behind }
+    ensures { IsTrue result ↔ AreBlankBetween (shown_by (all_rows rows.now)) first behind }
 {
     let mut low = from;
     let mut high = to;

@@ -69,6 +69,6 @@ pub use log::{Log, log_of};
 pub use looks::{lies_in_pool, record_at, reservation};
 pub use lower::{lies_behind, lower_of};
 pub use shown::Shown;
-pub use sorted::{has_between, sort_once};
+pub use sorted::{has_between, numbers_of, sort_once};
 pub use stored::StoredSlot;
 pub use written::WrittenCell;

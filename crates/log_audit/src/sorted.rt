@@ -1,7 +1,13 @@
 //! Numbers in order.
-ghost use Rattle.std.specs.Prelude.{◌↔◌, ℕ, Contains, IsTrue};
+ghost use Rattle.std.specs.Prelude.{◌≡◌, ◌↔◌, ℕ, Contains, IfOk, IsTrue, true};
+ghost use Rattle.std.specs.BTreeSet.{contains};
 ghost use Rattle.std.specs.List.Sorted.{IsStrictlyIncreasing};
+ghost use Rattle.std.specs.Ordering.{nat_cmp};
 ghost use Rattle.log_audit.specs.Between.{HasBetween};
+
+use cell_types::{NoMemory, memory};
+use std::alloc::Global;
+use std::collections::BTreeSet;
 
 /// Sorts the numbers, and keeps each of them once.
 pub fn sort_once(numbers: &mut Vec<u64>)
@@ -11,6 +17,19 @@ pub fn sort_once(numbers: &mut Vec<u64>)
 {
     numbers.sort_unstable();
     numbers.dedup();
+}
+
+/// The numbers of a set, as they rise.
+pub fn numbers_of(alloc: Global, set: &BTreeSet<u64>) -> Result<Vec<u64>, NoMemory>
+    ensures rises { IfOk result (λ numbers. IsStrictlyIncreasing numbers.items) }
+    ensures same { IfOk result
+        (λ numbers. (x : ℕ) → Contains numbers.items x ↔ (contains nat_cmp set.now x ≡ true)) }
+{
+    let mut numbers = Vec::new(alloc);
+    for number in set {
+        memory::push(&mut numbers, *number)?;
+    }
+    Ok(numbers)
 }
 
 /// Whether one of the numbers lies from `low` on and below `high`: found by bisection.

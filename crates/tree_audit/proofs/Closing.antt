@@ -1,26 +1,18 @@
 -- The tree's nodes, level after level.
-use Rattle.std.proofs.Common.{◌≡◌, ◌<◌, ◌≤◌, ◌+◌, ◌-◌, ◌⊎◌, ◌↔◌, ◌++◌, ⊎_elim, inl, inr, ℕ, zero, suc, List, [], ◌∷◌, length, get_or, Option, Some, refl, sym, ◌∙◌, subst, ap, arith}
-use Rattle.std.specs.Prelude.{slice_get, slice_index, slice_index_or, Contains}
+use Rattle.std.proofs.Common.{◌≡◌, ◌<◌, ◌≤◌, ◌+◌, ◌-◌, ◌↔◌, ◌++◌, ⊎_elim, inl, inr, ℕ, zero, suc, List, [], ◌∷◌, length, Option, Some, refl, sym, ◌∙◌, subst, ap, arith}
+use Rattle.std.specs.Prelude.{slice_index, slice_index_or, Contains}
 use Rattle.std.specs.List.Sorted.{IsStrictlyIncreasing}
 use Rattle.std.proofs.lemmas.List.Elements.{Contains-get_or, Contains-append_left, Contains-push, Contains-push_cases}
-use Rattle.std.proofs.lemmas.List.Kept.{AllPairs-from_increasing}
-use Rattle.std.proofs.lemmas.Option.{slice_get_within, slice_get-get_or}
 use Rattle.cell_types.specs.Image.{Image}
 use Rattle.cell_types.specs.Layout.{Layout, IsLayout, root_at}
 use Rattle.cell_types.specs.declared.record_cell.RecordCell.TheVariants.{Child}
 use Rattle.volume_meaning.specs.Nodes.{IsNode, root, under}
 use Rattle.volume_meaning.specs.Volumes.{Holds}
 use Rattle.volume_meaning.proofs.Holding.{one_record_holds}
-use Rattle.log_audit.proofs.OneMore.{get_before, get_last, length_pushed, below_or_at}
-use Rattle.tree_audit.specs.Nodes.{HasChildInPool, IsLastPlace, IsTarget, AddsChildTargets, IsUnder, AreUnder, AreNodesInside, AreOnLevel, AddsLevel, IsBefore, IsAmongNodes, AreNodes}
-use Rattle.tree_audit.specs.declared.nodes.LevelNode.{LevelNode}
-
--- these are the nodes of the levels below one, each once
-pub record AreNodesBelow (g : Layout) (image : Image) (levels : ℕ) (nodes : List LevelNode) : Type 0 where
-  pub each : (i : ℕ) (n : LevelNode) → slice_get nodes i ≡ Some n → (n.level < levels) × IsNode g image n.level n.node
-  pub all : (level node : ℕ) → level < levels → IsNode g image level node → IsAmongNodes nodes level node
-  pub rising : (i j : ℕ) (a b : LevelNode) → i < j → slice_get nodes i ≡ Some a → slice_get nodes j ≡ Some b
-      → IsBefore a b
+use Rattle.log_audit.proofs.OneMore.{below_or_at}
+use Rattle.tree_audit.specs.ChildCells.{HasChildInPool}
+use Rattle.tree_audit.specs.Nodes.{IsLastPlace, IsTarget, AddsChildTargets, IsUnder, AreUnder, AreNodesInside, AreOnLevel}
+use Rattle.tree_audit.specs.Numbers.{AreAll}
 
 -- an element is one whatever the default
 pub same_default : (xs : List ℕ) (k a b : ℕ) → k < length xs → slice_index_or xs k a ≡ slice_index_or xs k b
@@ -204,122 +196,26 @@ next_level {g} {image} {level} {row} {beneath} levels here are = record {
 pub level_inside : {g : Layout} {image : Image} {level : ℕ} {row : List ℕ} → IsLayout g → AreOnLevel g image level row → AreNodesInside g row
 level_inside layout here index less = node_inside layout (here.each index less)
 
--- no node of a row was put yet
-pub none_added : (level : ℕ) (row : List ℕ) (old : List LevelNode) → AddsLevel level row 0 old old
-none_added level row old = record {
-  count = omega arith;
-  kept = λ i n is. is;
-  added = λ k less. absurd (omega (arith, less));
-}
-
--- one node of a row more
-pub one_added : {level many node : ℕ} {row : List ℕ} {old new after : List LevelNode} → AddsLevel level row many old new
-    → node ≡ slice_index row many → after ≡ new ++ (record { level = level; node = node }) ∷ [] → AddsLevel level row (many + 1) old after
-one_added {level} {many} {node} {row} {old} {new} {after} so_far is more = subst (AddsLevel level row (many + 1) old) (sym more) (record {
-  count = omega (arith, length_pushed new last, so_far.count);
-  kept = λ i n there. before i n (so_far.kept i n there);
-  added = λ k less. ⊎_elim
-      (λ (earlier : k < many). before (length old + k) _ (so_far.added k earlier))
-      (λ (same : k ≡ many). get_last new last (length old + k) (omega (arith, same, so_far.count))
-      ∙ ap (λ (n : ℕ). Some (record { level = level; node = n })) (is ∙ ap (slice_index row) (sym same)))
-      (below_or_at k many less);
-})
-  where
-    last : LevelNode
-    last = record { level = level; node = node }
-
-    before : (i : ℕ) (n : LevelNode) → slice_get new i ≡ Some n → slice_get (new ++ last ∷ []) i ≡ Some n
-    before i n there = get_before new last i (slice_get_within new i n there) ∙ there
-
--- no level was added yet
-pub none_yet : (g : Layout) (image : Image) (nodes : List LevelNode) → nodes ≡ [] → AreNodesBelow g image 0 nodes
-none_yet g image nodes empty = record {
-  each = λ i n there. absurd (omega (arith, slice_get_within nodes i n there, ap length empty));
-  all = λ level node less. absurd (omega (arith, less));
-  rising = λ i j a b less one. absurd (omega (arith, slice_get_within nodes i a one, ap length empty));
-}
-
--- which of the old nodes, or of the row, stands there
-record IsNew (level : ℕ) (row : List ℕ) (old : List LevelNode) (i : ℕ) (n : LevelNode) : Type 0 where
-  k : ℕ
-  inside : k < length row
-  at : i ≡ length old + k
-  level_is : n.level ≡ level
-  node_is : n.node ≡ slice_index row k
-
-stands_there : {level : ℕ} {row : List ℕ} {old new : List LevelNode} → AddsLevel level row (length row) old new → (i : ℕ) (n : LevelNode)
-    → slice_get new i ≡ Some n → (slice_get old i ≡ Some n) ⊎ IsNew level row old i n
-stands_there {level} {row} {old} {new} adds i n there = ⊎_elim
-    (λ (less : i < length old).
-    let here = slice_get-get_or old i n less in
-    let both : Some (get_or old i n) ≡ Some n = sym (adds.kept i (get_or old i n) here) ∙ there in
-    let same : get_or old i n ≡ n = cc in
-    inl (here ∙ ap Some same))
-    (λ (more : length old ≤ i).
-    let k = i - length old in
-    let inside : k < length row = omega (arith, slice_get_within new i n there, adds.count, more) in
-    let at : i ≡ length old + k = omega (arith, more) in
-    let last : LevelNode = record { level = level; node = slice_index row k } in
-    let both : Some last ≡ Some n = sym (adds.added k inside) ∙ ap (slice_get new) (sym at) ∙ there in
-    let same : last ≡ n = cc in
-    inr (record { k = k; inside = inside; at = at; level_is = ap (λ (m : LevelNode). m.level) (sym same); node_is = ap (λ (m : LevelNode). m.node) (sym same) }))
-    (split i (length old))
-  where
-    split : (a b : ℕ) → (a < b) ⊎ (b ≤ a)
-    split a b = grind arith
-
--- one level more
-pub one_level : {g : Layout} {image : Image} {level : ℕ} {row : List ℕ} {old new : List LevelNode} → AreNodesBelow g image level old
-    → AreOnLevel g image level row → AddsLevel level row (length row) old new → AreNodesBelow g image (level + 1) new
-one_level {g} {image} {level} {row} {old} {new} are here adds = record {
-  each = λ i n there. ⊎_elim
-      (λ (before : slice_get old i ≡ Some n). let e = are.each i n before in (omega (arith, e.0), e.1))
-      (λ (last : IsNew level row old i n). (
-        omega (arith, last.level_is),
-        subst (λ (v : ℕ). IsNode g image v n.node) (sym last.level_is)
-            (subst (IsNode g image level) (sym last.node_is) (here.each last.k last.inside)),
-      ))
-      (stands_there adds i n there);
-  all = λ v node less is. ⊎_elim
-      (λ (above : v < level). let a = are.all v node above is in record { index = a.index; there = adds.kept a.index _ a.there })
-      (λ (same : v ≡ level).
-      let k = here.all node (subst (λ (w : ℕ). IsNode g image w node) same is) in
-      let at : slice_index row k.0 ≡ node = same_default row k.0 0 node k.1 ∙ k.2 in
-      record {
-        index = length old + k.0;
-        there = adds.added k.0 k.1 ∙ ap (λ (m : ℕ). Some (record { level = level; node = m })) at
-            ∙ ap (λ (w : ℕ). Some (record { level = w; node = node })) (sym same);
-      })
-      (below_or_at v level less);
-  rising = λ i j a b less one other. ⊎_elim
-      (λ (old_b : slice_get old j ≡ Some b). ⊎_elim
-      (λ (old_a : slice_get old i ≡ Some a). are.rising i j a b less old_a old_b)
-      (λ (new_a : IsNew level row old i a). absurd (omega (arith, new_a.at, less, slice_get_within old j b old_b)))
-      (stands_there adds i a one))
-      (λ (new_b : IsNew level row old j b). ⊎_elim
-      (λ (old_a : slice_get old i ≡ Some a). inl (omega (arith, (are.each i a old_a).0, new_b.level_is)))
-      (λ (new_a : IsNew level row old i a). inr (
-        new_a.level_is ∙ sym new_b.level_is,
-        let up : slice_index row new_a.k < slice_index row new_b.k = rises new_a.k new_b.k (omega (arith, new_a.at, new_b.at, less)) new_b.inside in
-            omega (arith, up, new_a.node_is, new_b.node_is),
-      ))
-      (stands_there adds i a one))
-      (stands_there adds j b other);
-}
-  where
-    rises : (a b : ℕ) → a < b → b < length row → slice_index row a < slice_index row b
-    rises a b less inside = AllPairs-from_increasing row here.rising a b 0 less inside
-
 -- there is no level below the last
-deepest : {g : Layout} {image : Image} {level node : ℕ} → IsNode g image level node → level < 64
+pub deepest : {g : Layout} {image : Image} {level node : ℕ} → IsNode g image level node → level < 64
 deepest (root level node first is) = omega (arith, first)
 deepest (under level node v above x next rest low levels child from to) = omega (arith, next, levels)
 
-pub all_levels : {g : Layout} {image : Image} {nodes : List LevelNode} → AreNodesBelow g image 64 nodes → AreNodes g image nodes
-all_levels are = record {
-  each = λ i n there. (are.each i n there).1;
-  all = λ level node is. are.all level node (deepest is) is;
-  rising = are.rising;
+-- where a level has the nodes of the one above, so has each from there on
+pub stays : {g : Layout} {image : Image} {row : List ℕ} (more level : ℕ) → level + more ≡ 63 → AreOnLevel g image level row → AreUnder g image row row
+    → AreOnLevel g image 63 row
+stays {g} {image} {row} zero level is here are = subst (λ (v : ℕ). AreOnLevel g image v row) (omega (arith, is)) here
+stays {g} {image} {row} (suc more) level is here are =
+    stays more (level + 1) (omega (arith, is)) (next_level (omega (arith, is)) here are) are
+
+-- the nodes of a level are just these
+pub level_all : {g : Layout} {image : Image} {level : ℕ} {row : List ℕ} → AreOnLevel g image level row → AreAll (IsNode g image level) row
+level_all {g} {image} {level} {row} here = record {
+  rising = here.rising;
+  each = λ x. (
+    λ h. subst (IsNode g image level) (same_default row h.0 0 x h.1 ∙ h.2) (here.each h.0 h.1),
+    λ node. here.all x node,
+  );
 }
 
 -- all targets, each once

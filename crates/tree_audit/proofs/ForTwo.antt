@@ -1,5 +1,6 @@
 -- Rule 10 by blocks that are listed for two of their lists.
-use Rattle.std.proofs.Common.{◌≡◌, ◌<◌, ◌≤◌, ◌+◌, ◌*◌, ◌⊎◌, ⊎_elim, ℕ, List, sym, subst, arith}
+use Rattle.std.proofs.Common.{◌≡◌, ◌<◌, ◌≤◌, ◌+◌, ◌*◌, ⊎_elim, ℕ, true, sym, subst, arith}
+use Rattle.std.specs.Prelude.{IsTrue}
 use Rattle.cell_types.specs.Image.{Image}
 use Rattle.cell_types.specs.Layout.{Layout}
 use Rattle.cell_types.specs.declared.record_cell.RecordCell.TheVariants.{Jump}
@@ -8,7 +9,7 @@ use Rattle.volume_meaning.specs.Nodes.{AreApart, IsBlockOf}
 use Rattle.volume_meaning.specs.Volumes.{Holds}
 use Rattle.tamper_rules.specs.Rules.{LeadsWell}
 use Rattle.list_audit.specs.Blocks.{AreBlocksForTwo, IsAmongBlocks, IsShared, PointsTo}
-use Rattle.list_audit.specs.declared.listed.ListBlock.{ListBlock}
+use Rattle.list_audit.specs.declared.found.ListBlocks.{ListBlocks}
 use Rattle.list_audit.proofs.Closing.{leads_on}
 use Rattle.list_audit.proofs.EachBlock.{DecideAll, asked_of}
 use Rattle.tree_audit.specs.Leading.{PointerAsks}
@@ -44,17 +45,17 @@ module _ {g : Layout} {image : Image} {one other block : ℕ} (first : IsBlockOf
       (asked level digit levels some digits at) (asks level digit levels some digits at))
 
 -- so what blocks that are listed for two ask of a cell decides what all ask of it
-pub pointers_decided : {g : Layout} {image : Image} {blocks : List ListBlock} → AreBlocksForTwo g image blocks
-    → DecideAll g image blocks (PointerAsks g image)
-pointers_decided {g} {image} {blocks} are cell written asked l block is = ⊎_elim
-    (λ (among : IsAmongBlocks blocks l block). asks among)
-    (λ (shared : IsShared blocks block). both_content (of_list shared.first) (of_list shared.second) shared.two l cell
-    (asks shared.first) (asks shared.second))
-    (are.all l block is)
+pub pointers_decided : {g : Layout} {image : Image} {found : ListBlocks} → AreBlocksForTwo g image found
+    → DecideAll g image found.blocks.items (PointerAsks g image)
+pointers_decided {g} {image} {found} are cell written asked l block is = ⊎_elim
+    (λ (among : IsAmongBlocks found.blocks.items l block). asks among)
+    (λ (shared : IsTrue true × IsShared found.blocks.items block). let s = shared.1 in
+    both_content (of_list s.first) (of_list s.second) s.two l cell (asks s.first) (asks s.second))
+    (are.taken.all l block is)
   where
-    asks : {m : ℕ} → IsAmongBlocks blocks m block → PointerAsks g image m block cell
+    asks : {m : ℕ} → IsAmongBlocks found.blocks.items m block → PointerAsks g image m block cell
     asks among = asked_of (PointerAsks g image) cell (asked cell (omega arith) written) among
 
-    of_list : {m : ℕ} → IsAmongBlocks blocks m block → IsBlockOf g image m block
+    of_list : {m : ℕ} → IsAmongBlocks found.blocks.items m block → IsBlockOf g image m block
     of_list {m} a = subst (λ (n : ℕ). IsBlockOf g image n block) a.list
-        (subst (IsBlockOf g image a.one.list) a.is (are.each a.place a.one a.there))
+        (subst (IsBlockOf g image a.one.list) a.is (are.taken.each a.place a.one a.there))

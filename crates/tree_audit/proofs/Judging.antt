@@ -65,5 +65,5 @@ bucket_place x cell layout (IsNode.under level node v above y next rest few leve
     inr (omega (arith, from, at), omega (arith, to, at, low))
 
 -- a node asks nothing of the cells before it
-pub asks_none_before : (g : Layout) (image : Image) (level node cell : ℕ) → cell < node → AsksBucket g image node cell
-asks_none_before g image level node cell before x low at = absurd (omega (arith, at, before))
+pub asks_none_before : (g : Layout) (image : Image) (node cell : ℕ) → cell < node → AsksBucket g image node cell
+asks_none_before g image node cell before x low at = absurd (omega (arith, at, before))

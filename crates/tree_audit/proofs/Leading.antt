@@ -1,5 +1,5 @@
 -- Whether child cells lead down well.
-use Rattle.std.proofs.Common.{◌≡◌, ◌<◌, ◌≤◌, ◌+◌, ◌-◌, ◌^◌, ◌⊎◌, ⊎_elim, inl, inr, ℕ, List, length, get_or, refl, sym, ◌∙◌, subst, ap, arith}
+use Rattle.std.proofs.Common.{◌≡◌, ◌<◌, ◌≤◌, ◌+◌, ◌-◌, ◌*◌, ◌^◌, ◌⊎◌, ⊎_elim, inl, inr, ℕ, List, length, get_or, refl, sym, ◌∙◌, subst, ap, arith}
 use Rattle.std.specs.Prelude.{Contains}
 use Rattle.std.proofs.lemmas.Bool.{cases_order}
 use Rattle.std.proofs.lemmas.Option.{none-some, slice_get-get_or}
@@ -25,11 +25,15 @@ use Rattle.log_audit.specs.declared.stored.StoredSlot.{StoredSlot}
 use Rattle.log_audit.proofs.Beginning.{ended_cells}
 use Rattle.log_audit.proofs.Logged.{one_slot}
 use Rattle.log_audit.proofs.Storing.{one_row}
-use Rattle.tree_audit.specs.Around.{AreAround, IsLeadOf, lead_number}
-use Rattle.tree_audit.specs.Children.{AsksChild, HasCopyOf, IsClear, IsFirstTo, IsJournaled, IsWellLed}
-use Rattle.tree_audit.specs.Nodes.{HasChildInPool}
-use Rattle.tree_audit.specs.declared.around.Around.{Around}
-use Rattle.tree_audit.proofs.Closing.{node_inside, one_target}
+use Rattle.list_audit.specs.Numbers.{neighbour_number}
+use Rattle.list_audit.specs.declared.listed.TheConstants.{BLOCK_STEP}
+use Rattle.tree_audit.specs.ChildCells.{HasChildInPool, IsLeadOf, lead_number}
+use Rattle.tree_audit.specs.Children.{AsksChildren, HasCopyOf, IsClear, IsFirstTo, IsJournaled, IsWellLed}
+use Rattle.tree_audit.specs.Nodes.{AreNodes, IsSomeNode}
+use Rattle.tree_audit.specs.Numbers.{AreAll}
+use Rattle.tree_audit.specs.declared.nodes.TreeNodes.{TreeNodes}
+use Rattle.tree_audit.proofs.Closing.{deepest, node_inside, one_target}
+use Rattle.tree_audit.proofs.Occupying.{AreTold}
 
 -- the edge of a log is one
 pub edge_is : {g : Layout} {image : Image} (log : Log) → IsLog g image log → IsEdge g image image log.edge
@@ -77,43 +81,57 @@ near_not_apart t b size low is from below apart = ⊎_elim
     (λ (before : b + size ≤ t). omega (arith, before, is, from))
     apart
 
-module _ {g : Layout} {image : Image} {around : Around} (are : AreAround g image around) where
+module _ {g : Layout} {image : Image} {numbers : List ℕ} (are : AreTold g image numbers) where
   -- no block begins near the target, or one does
-  pub no_block_near : {t low high : ℕ} → low + 256 ≡ t + 1 → high ≡ t + 32 → (HasBetween around.blocks.items low high → ⊥)
-      → (k other : ℕ) → IsBlockOf g image k other → AreApart t 32 other 256
-  no_block_near {t} {low} {high} is end none k other block = ⊎_elim
+  pub no_block_near : {t from to : ℕ} (low high : ℕ) → low + 256 ≡ t + 1 → high ≡ t + 32 → from ≡ low * BLOCK_STEP → to ≡ high * BLOCK_STEP
+      → (HasBetween numbers from to → ⊥) → (k other : ℕ) → IsBlockOf g image k other → AreApart t 32 other 256
+  no_block_near {t} {from} {to} low high is end first behind none k other block = ⊎_elim
       (λ (apart : AreApart t 32 other 256). apart)
-      (λ near. absurd (none (found_at around.blocks.items other low high ((are.blocks.each other).1 (k, block)) near.0 (omega (arith, near.1, end)))))
+      (λ near. absurd (⊎_elim
+      (λ (told : (k < BLOCK_STEP) × Contains numbers (neighbour_number k other)). there k near told.0 told.1)
+      (λ twice. there twice.one near twice.small twice.first)
+      (are.all_blocks k other block)))
       (apart_or_near t other 256 low is)
+    where
+      there : (l : ℕ) → (low ≤ other) × (other < t + 32) → l < BLOCK_STEP → Contains numbers (neighbour_number l other) → ⊥
+      there l near few has = none (record {
+        number = neighbour_number l other;
+        there = has;
+        from = omega (arith, near.0, first);
+        below = omega (arith, near.1, end, behind, few);
+      })
 
-  pub block_near : {t low high : ℕ} → low + 256 ≡ t + 1 → high ≡ t + 32 → HasBetween around.blocks.items low high → IsClear g image t → ⊥
-  block_near {t} {low} {high} is end h clear =
-      let b = (are.blocks.each h.number).0 h.there in
-      near_not_apart t h.number 256 low is h.from (omega (arith, h.below, end)) (clear.blocks b.0 _ b.1)
+  pub block_near : {t from to : ℕ} (low high : ℕ) → low + 256 ≡ t + 1 → high ≡ t + 32 → from ≡ low * BLOCK_STEP → to ≡ high * BLOCK_STEP
+      → HasBetween numbers from to → IsClear g image t → ⊥
+  block_near {t} {from} {to} low high is end first behind h clear =
+      let b = are.block_is h.number h.there in
+      near_not_apart t b.block 256 low is (omega (arith, h.from, first, b.number_is, b.small)) (omega (arith, h.below, behind, end, b.number_is))
+      (clear.blocks b.list b.block b.is)
 
+module _ {g : Layout} {image : Image} {nodes : List ℕ} (are : AreAll (IsSomeNode g image) nodes) where
   -- no other node does
-  pub no_node_near : {t low high : ℕ} → low + 32 ≡ t + 1 → high ≡ t + 32 → (HasBetween around.nodes.items low t → ⊥)
-      → (HasBetween around.nodes.items (t + 1) high → ⊥) → (w other : ℕ) → IsNode g image w other → (other ≡ t) ⊎ AreApart t 32 other 32
+  pub no_node_near : {t low high : ℕ} → low + 32 ≡ t + 1 → high ≡ t + 32 → (HasBetween nodes low t → ⊥)
+      → (HasBetween nodes (t + 1) high → ⊥) → (w other : ℕ) → IsNode g image w other → (other ≡ t) ⊎ AreApart t 32 other 32
   no_node_near {t} {low} {high} is end none_before none_behind w other node = ⊎_elim
       (λ (apart : AreApart t 32 other 32). inr apart)
       (λ near. ⊎_elim
       (λ same. inl same)
       (λ differ. ⊎_elim
-      (λ less. absurd (none_before (found_at around.nodes.items other low t there near.0 less)))
-      (λ more. absurd (none_behind (found_at around.nodes.items other (t + 1) high there (omega (arith, more)) (omega (arith, near.1, end)))))
+      (λ less. absurd (none_before (found_at nodes other low t there near.0 less)))
+      (λ more. absurd (none_behind (found_at nodes other (t + 1) high there (omega (arith, more)) (omega (arith, near.1, end)))))
       differ)
       (cases_order other t))
       (apart_or_near t other 32 low is)
     where
-      there : Contains around.nodes.items other
-      there = (are.nodes.each other).1 (w, node)
+      there : Contains nodes other
+      there = (are.each other).1 (w, node)
 
   -- or one does
-  pub node_near : {t low high from to : ℕ} → low + 32 ≡ t + 1 → high ≡ t + 32 → HasBetween around.nodes.items from to
+  pub node_near : {t low high from to : ℕ} → low + 32 ≡ t + 1 → high ≡ t + 32 → HasBetween nodes from to
       → low ≤ from → to ≤ high → (to ≤ t) ⊎ (t < from) → IsClear g image t → ⊥
   node_near {t} {low} {high} {from} {to} is end h low_is high_is beside clear =
       let number = h.number in
-      let n = (are.nodes.each number).0 h.there in
+      let n = (are.each number).0 h.there in
       ⊎_elim
       (λ (same : number ≡ t). ⊎_elim
       (λ (before : to ≤ t). omega (arith, same, before, h.below))
@@ -123,9 +141,10 @@ module _ {g : Layout} {image : Image} {around : Around} (are : AreAround g image
       near_not_apart t number 32 low is (omega (arith, h.from, low_is)) (omega (arith, h.below, high_is, end)) apart)
       (clear.nodes n.0 number n.1)
 
+module _ {g : Layout} {image : Image} {tree : TreeNodes} (are : AreNodes g image tree) where
   -- no lower child cell leads to the target
   pub no_lead_before : {cell target number high : ℕ} → HasChildInPool g image cell target → number ≡ lead_number target 0 → high ≡ number + cell
-      → (HasBetween around.leads.items number high → ⊥) → IsFirstTo g image cell target
+      → (HasBetween tree.leads.items number high → ⊥) → IsFirstTo g image cell target
   no_lead_before {cell} {target} {number} {high} leads is end none w other y node low less holds =
       let at : other + 16 + y ≡ other + (16 + y) = omega arith in
       let lead : IsLeadOf g image other 32 (lead_number target (other + (16 + y))) = record {
@@ -136,22 +155,32 @@ module _ {g : Layout} {image : Image} {around : Around} (are : AreAround g image
         leads = record { held = subst (λ (c : ℕ). Holds image c (Child target)) at holds; from = leads.from; to = leads.to };
         is = refl;
       } in
-      none (found_at around.leads.items (lead_number target (other + (16 + y))) number high
-      ((are.leads.each (lead_number target (other + (16 + y)))).1 (w, other, node, lead)) (omega (arith, is)) (omega (arith, is, end, less)))
+      none (found_at tree.leads.items (lead_number target (other + (16 + y))) number high
+      ((are.leads.each (lead_number target (other + (16 + y)))).1 (other, (w, node), lead)) (omega (arith, is)) (omega (arith, is, end, less)))
 
   -- or one does
   pub lead_before : {cell target number high : ℕ} → IsLayout g → cell < 2147483648 → number ≡ lead_number target 0 → high ≡ number + cell
-      → HasBetween around.leads.items number high → IsFirstTo g image cell target → ⊥
+      → HasBetween tree.leads.items number high → IsFirstTo g image cell target → ⊥
   lead_before {cell} {target} {number} {high} layout small is end h first =
       let n = (are.leads.each h.number).0 h.there in
-      let lead = n.3 in
-      let inside = node_inside layout n.2 in
-      let few : n.1 + lead.place < 4294967296 = omega (arith, inside, layout.cells, lead.to) in
+      let lead = n.2 in
+      let inside = node_inside layout n.1.1 in
+      let few : n.0 + lead.place < 4294967296 = omega (arith, inside, layout.cells, lead.to) in
       let same : lead.target ≡ target = omega (arith, lead.is, h.from, h.below, is, end, few, small) in
-      let less : n.1 + lead.place < cell = omega (arith, lead.is, h.below, is, end, same) in
-      let at : n.1 + lead.place ≡ n.1 + 16 + (lead.place - 16) = omega (arith, lead.from) in
-      first n.0 n.1 (lead.place - 16) n.2 (omega (arith, lead.from, lead.to)) (omega (arith, at, less))
-      (subst (λ (c : ℕ). Holds image c (Child target)) at (subst (λ (t : ℕ). Holds image (n.1 + lead.place) (Child t)) same lead.leads.held))
+      let less : n.0 + lead.place < cell = omega (arith, lead.is, h.below, is, end, same) in
+      let at : n.0 + lead.place ≡ n.0 + 16 + (lead.place - 16) = omega (arith, lead.from) in
+      first n.1.0 n.0 (lead.place - 16) n.1.1 (omega (arith, lead.from, lead.to)) (omega (arith, at, less))
+      (subst (λ (c : ℕ). Holds image c (Child target)) at (subst (λ (t : ℕ). Holds image (n.0 + lead.place) (Child t)) same lead.leads.held))
+
+  -- a node that is none of the last level has none below 63
+  pub above_last : {v node : ℕ} → (IsNode g image 63 node → ⊥) → IsNode g image v node → v < 63
+  above_last {v} {node} none node_is = ⊎_elim
+      (λ (same : v ≡ 63). absurd (none (subst (λ (w : ℕ). IsNode g image w node) same node_is)))
+      (λ differ. ⊎_elim
+      (λ (less : v < 63). less)
+      (λ (more : 63 < v). absurd (let most = deepest node_is in omega (arith, most, more)))
+      differ)
+      (cases_order v 63)
 
 -- the slot that owns the target has a copy of the cell
 pub journaled : {g : Layout} {image : Image} {s : StoredSlot} {owner cell target : ℕ} → IsStored g image s → s.slot ≡ owner
@@ -278,5 +307,5 @@ pub same_copies : {image : Image} {cell at : ℕ} → HasTarget image cell cell 
 same_copies h same = record { cell = h.cell; stands = same ∙ h.stands; copy = h.copy; is = h.is }
 
 -- a node asks nothing of the cells before it
-pub asks_none_before : (g : Layout) (image : Image) (level node cell : ℕ) → cell < node → AsksChild g image level node cell
-asks_none_before g image level node cell before x low at = absurd (omega (arith, at, before))
+pub asks_none_before : (g : Layout) (image : Image) (node cell : ℕ) → cell < node → AsksChildren g image node cell
+asks_none_before g image node cell before x low at = absurd (omega (arith, at, before))

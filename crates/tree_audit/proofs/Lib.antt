@@ -1,6 +1,7 @@
 pub mod Closing
 pub mod EachNode
 pub mod ForTwo
+pub mod Gathering
 pub mod Going
 pub mod Judging
 pub mod Leading
@@ -10,7 +11,6 @@ pub mod Occupying
 pub mod Owning
 pub mod Pathing
 pub mod PointerLeading
-pub mod PointerNumbering
 pub mod Reading
 pub mod Spanning
 pub mod Trailing

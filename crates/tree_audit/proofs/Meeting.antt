@@ -6,8 +6,11 @@ use Rattle.cell_types.specs.Layout.{Layout}
 use Rattle.volume_meaning.specs.Nodes.{AreApart}
 use Rattle.log_audit.specs.Between.{HasBetween}
 use Rattle.log_audit.proofs.Deciding.{no, yes}
-use Rattle.tree_audit.specs.Occupied.{AreOccupied, IsAlone, IsOffNodes, occupied_number}
-use Rattle.tree_audit.specs.declared.occupied.OccupiedCells.{OccupiedCells}
+use Rattle.list_audit.specs.Numbers.{neighbour_number}
+use Rattle.tree_audit.specs.Nodes.{IsSomeNode}
+use Rattle.tree_audit.specs.Numbers.{AreAll}
+use Rattle.tree_audit.specs.Occupied.{IsAlone, IsOffNodes}
+use Rattle.tree_audit.proofs.Occupying.{AreTold}
 
 order : (a b : ℕ) → (a < b) ⊎ (b ≤ a)
 order a b = grind arith
@@ -30,11 +33,11 @@ turned false is one other = yes (other (λ p. no_is (is.1 p)))
     no_is : IsTrue false → ⊥
     no_is h = search rules
 
-module _ (g : Layout) (image : Image) (occupied : OccupiedCells) (are : AreOccupied g image occupied) (target : ℕ) (room : 256 ≤ target) where
+module _ (g : Layout) (image : Image) {numbers : List ℕ} (are : AreTold g image numbers) (target : ℕ) (room : 256 ≤ target) where
   module _ (l : ℕ) (small : l < 65536) where
     -- a block that begins before, or a lower list's
     pub not_alone_before : {from to : ℕ} → from ≡ (target - 255) * 65536 → to ≡ target * 65536 + l
-        → HasBetween occupied.blocks.items from to → IsAlone g image l target → ⊥
+        → HasBetween numbers from to → IsAlone g image l target → ⊥
     not_alone_before first own has alone =
         let b = are.block_is has.number has.there in
         ⊎_elim
@@ -47,7 +50,7 @@ module _ (g : Layout) (image : Image) (occupied : OccupiedCells) (are : AreOccup
 
     -- one that begins behind, or a higher list's
     pub not_alone_behind : {from to : ℕ} → from ≡ target * 65536 + l + 1 → to ≡ (target + 256) * 65536
-        → HasBetween occupied.blocks.items from to → IsAlone g image l target → ⊥
+        → HasBetween numbers from to → IsAlone g image l target → ⊥
     not_alone_behind own behind has alone =
         let b = are.block_is has.number has.there in
         ⊎_elim
@@ -61,10 +64,10 @@ module _ (g : Layout) (image : Image) (occupied : OccupiedCells) (are : AreOccup
     -- and where there is neither
     pub alone : {first own next behind : ℕ} → first ≡ (target - 255) * 65536 → own ≡ target * 65536 + l → next ≡ own + 1
         → behind ≡ (target + 256) * 65536
-        → (HasBetween occupied.blocks.items first own → ⊥) → (HasBetween occupied.blocks.items next behind → ⊥)
+        → (HasBetween numbers first own → ⊥) → (HasBetween numbers next behind → ⊥)
         → IsAlone g image l target
     alone {first} {own} {next} {behind} f o n e lower upper k other is = ⊎_elim
-        (λ (told : (k < 65536) × Contains occupied.blocks.items (occupied_number k other)). by_number k told.0 told.1)
+        (λ (told : (k < 65536) × Contains numbers (neighbour_number k other)). by_number k told.0 told.1)
         (λ twice. ⊎_elim
         (λ one. ⊎_elim
         (λ second. absurd (twice.two (one.1 ∙ sym second.1)))
@@ -74,35 +77,36 @@ module _ (g : Layout) (image : Image) (occupied : OccupiedCells) (are : AreOccup
         (by_number twice.one twice.small twice.first))
         (are.all_blocks k other is)
       where
-        by_number : (m : ℕ) → m < 65536 → Contains occupied.blocks.items (occupied_number m other)
+        by_number : (m : ℕ) → m < 65536 → Contains numbers (neighbour_number m other)
             → ((other ≡ target) × (m ≡ l)) ⊎ AreApart target 256 other 256
         by_number m under there = ⊎_elim
-            (λ (low : occupied_number m other < first). inr (inr (omega (arith, low, f, under, room))))
-            (λ (from : first ≤ occupied_number m other). ⊎_elim
-            (λ (below : occupied_number m other < own). absurd (lower (record { number = occupied_number m other; there = there; from = from; below = below })))
-            (λ (at : own ≤ occupied_number m other). ⊎_elim
-            (λ (same : occupied_number m other < next). inl (omega (arith, same, at, n, o, under, small), omega (arith, same, at, n, o, under, small)))
-            (λ (after : next ≤ occupied_number m other). ⊎_elim
-            (λ (within : occupied_number m other < behind). absurd (upper (record { number = occupied_number m other; there = there; from = after; below = within })))
-            (λ (far : behind ≤ occupied_number m other). inr (inl (omega (arith, far, e, under))))
-            (order (occupied_number m other) behind))
-            (order (occupied_number m other) next))
-            (order (occupied_number m other) own))
-            (order (occupied_number m other) first)
+            (λ (low : neighbour_number m other < first). inr (inr (omega (arith, low, f, under, room))))
+            (λ (from : first ≤ neighbour_number m other). ⊎_elim
+            (λ (below : neighbour_number m other < own). absurd (lower (record { number = neighbour_number m other; there = there; from = from; below = below })))
+            (λ (at : own ≤ neighbour_number m other). ⊎_elim
+            (λ (same : neighbour_number m other < next). inl (omega (arith, same, at, n, o, under, small), omega (arith, same, at, n, o, under, small)))
+            (λ (after : next ≤ neighbour_number m other). ⊎_elim
+            (λ (within : neighbour_number m other < behind). absurd (upper (record { number = neighbour_number m other; there = there; from = after; below = within })))
+            (λ (far : behind ≤ neighbour_number m other). inr (inl (omega (arith, far, e, under))))
+            (order (neighbour_number m other) behind))
+            (order (neighbour_number m other) next))
+            (order (neighbour_number m other) own))
+            (order (neighbour_number m other) first)
 
+module _ (g : Layout) (image : Image) {nodes : List ℕ} (are : AreAll (IsSomeNode g image) nodes) (target : ℕ) (room : 256 ≤ target) where
   -- a node in reach
   pub nodes_tell : {from to : ℕ} → from ≡ target - 31 → to ≡ target + 256 → (b : Bool)
-      → (IsTrue b ↔ HasBetween occupied.nodes.items from to) → (IsTrue (not b) ↔ IsOffNodes g image target)
+      → (IsTrue b ↔ HasBetween nodes from to) → (IsTrue (not b) ↔ IsOffNodes g image target)
   nodes_tell {from} {to} first behind b is = turned b is
-      (λ off has. let n = are.node_is has.number has.there in
+      (λ off has. let n = (are.each has.number).0 has.there in
       ⊎_elim
       (λ (after : target + 256 ≤ has.number). omega (arith, after, has.below, behind))
       (λ (before : has.number + 32 ≤ target). omega (arith, before, has.from, first, room))
-      (off n.level has.number n.is))
+      (off n.0 has.number n.1))
       (λ none level node is_node. ⊎_elim
       (λ (low : node < from). inr (omega (arith, low, first, room)))
       (λ (above : from ≤ node). ⊎_elim
-      (λ (within : node < to). absurd (none (record { number = node; there = are.all_nodes level node is_node; from = above; below = within })))
+      (λ (within : node < to). absurd (none (record { number = node; there = (are.each node).1 (level, is_node); from = above; below = within })))
       (λ (far : to ≤ node). inl (omega (arith, far, behind)))
       (order node to))
       (order node from))

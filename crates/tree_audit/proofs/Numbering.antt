@@ -1,19 +1,17 @@
 -- Numbers that are gathered one after another, and found by bisection.
-use Rattle.std.proofs.Common.{◌≡◌, ◌<◌, ◌≤◌, ◌+◌, ◌⊎◌, ◌++◌, ⊎_elim, inl, inr, ℕ, List, [], ◌∷◌, length, Some, refl, sym, ◌∙◌, subst, ap, arith}
+use Rattle.std.proofs.Common.{◌≡◌, ◌<◌, ◌≤◌, ◌+◌, ◌⊎◌, ◌++◌, ⊎_elim, inl, inr, ℕ, List, [], ◌∷◌, length, Some, sym, ◌∙◌, subst, ap, arith}
 use Rattle.std.specs.Prelude.{slice_get, Contains}
 use Rattle.std.specs.List.Sorted.{IsStrictlyIncreasing}
 use Rattle.std.proofs.lemmas.List.Elements.{Contains-append_left, Contains-push, Contains-push_cases}
-use Rattle.std.proofs.lemmas.Option.{slice_get_within}
+use Rattle.std.proofs.lemmas.Option.{get_or_from_slice_get, slice_get_within, slice_get-get_or}
 use Rattle.cell_types.specs.Image.{Image}
 use Rattle.cell_types.specs.Layout.{Layout}
-use Rattle.volume_meaning.specs.Nodes.{IsBlockOf, IsNode}
+use Rattle.volume_meaning.specs.Nodes.{IsNode}
 use Rattle.log_audit.proofs.OneMore.{below_or_at}
-use Rattle.list_audit.specs.Blocks.{AreBlocksForTwo, IsAmongBlocks, IsShared}
-use Rattle.list_audit.specs.declared.listed.ListBlock.{ListBlock}
-use Rattle.tree_audit.specs.Around.{AddsNumbers, AreAll, AreAround, BeginsBlock, BeginsNode, IsLeadAmong, IsLeadOf, lead_number}
-use Rattle.tree_audit.specs.Nodes.{AreNodes, HasChildInPool}
-use Rattle.tree_audit.specs.declared.around.Around.{Around}
-use Rattle.tree_audit.specs.declared.nodes.LevelNode.{LevelNode}
+use Rattle.tree_audit.specs.ChildCells.{HasChildInPool, IsLeadAmong, IsLeadOf, lead_number}
+use Rattle.tree_audit.specs.Nodes.{AreNodes, IsSomeNode}
+use Rattle.tree_audit.specs.Numbers.{AddsNumbers, AreAll}
+use Rattle.tree_audit.specs.declared.nodes.TreeNodes.{TreeNodes}
 use Rattle.tree_audit.proofs.Closing.{one_target}
 
 -- nothing was added yet
@@ -90,36 +88,6 @@ all_same P Q all to from = record {
   each = λ x. (λ h. to x ((all.each x).0 h), λ q. (all.each x).1 (from x q));
 }
 
--- no node, and one more
-pub no_node : (nodes : List LevelNode) (x : ℕ) → BeginsNode nodes 0 x → ⊥
-no_node nodes x b = omega (arith, b.first)
-
-pub one_node : {nodes : List LevelNode} {n : ℕ} {old new after : List ℕ} (one : LevelNode) (number : ℕ) → AddsNumbers (BeginsNode nodes n) old new
-    → slice_get nodes n ≡ Some one → number ≡ one.node → after ≡ new ++ number ∷ [] → AddsNumbers (BeginsNode nodes (n + 1)) old after
-one_node {nodes} {n} {old} {new} {after} one number adds there same is = adds_one (BeginsNode nodes n) (BeginsNode nodes (n + 1)) number adds is
-    (λ x b. record { index = b.index; first = omega (arith, b.first); one = b.one; there = b.there; is = b.is })
-    (record { index = n; first = omega arith; one = one; there = there; is = sym same })
-    (λ x b. ⊎_elim
-    (λ (less : b.index < n). inl (record { index = b.index; first = less; one = b.one; there = b.there; is = b.is }))
-    (λ (last : b.index ≡ n). let both : Some one ≡ Some b.one = sym there ∙ subst (λ (k : ℕ). slice_get nodes k ≡ Some b.one) last b.there in
-    let e : one ≡ b.one = cc in inr (same ∙ ap (λ (m : LevelNode). m.node) e ∙ b.is))
-    (below_or_at b.index n b.first))
-
--- no block, and one more
-pub no_block : (blocks : List ListBlock) (x : ℕ) → BeginsBlock blocks 0 x → ⊥
-no_block blocks x b = omega (arith, b.first)
-
-pub one_block : {blocks : List ListBlock} {n : ℕ} {old new after : List ℕ} (one : ListBlock) (number : ℕ) → AddsNumbers (BeginsBlock blocks n) old new
-    → slice_get blocks n ≡ Some one → number ≡ one.block → after ≡ new ++ number ∷ [] → AddsNumbers (BeginsBlock blocks (n + 1)) old after
-one_block {blocks} {n} {old} {new} {after} one number adds there same is = adds_one (BeginsBlock blocks n) (BeginsBlock blocks (n + 1)) number adds is
-    (λ x b. record { index = b.index; first = omega (arith, b.first); one = b.one; there = b.there; is = b.is })
-    (record { index = n; first = omega arith; one = one; there = there; is = sym same })
-    (λ x b. ⊎_elim
-    (λ (less : b.index < n). inl (record { index = b.index; first = less; one = b.one; there = b.there; is = b.is }))
-    (λ (last : b.index ≡ n). let both : Some one ≡ Some b.one = sym there ∙ subst (λ (k : ℕ). slice_get blocks k ≡ Some b.one) last b.there in
-    let e : one ≡ b.one = cc in inr (same ∙ ap (λ (m : ListBlock). m.block) e ∙ b.is))
-    (below_or_at b.index n b.first))
-
 -- no child cell of a node yet; one that leads nowhere; and one that leads on
 pub no_lead : (g : Layout) (image : Image) (node x : ℕ) → IsLeadOf g image node 16 x → ⊥
 no_lead g image node x l = omega (arith, l.from, l.to)
@@ -147,44 +115,32 @@ module _ {g : Layout} {image : Image} {node place : ℕ} {old new : List ℕ} (a
       (below_or_at l.place place l.to))
 
 -- no node's child cells, and those of one more
-pub no_leads : (g : Layout) (image : Image) (nodes : List LevelNode) (x : ℕ) → IsLeadAmong g image nodes 0 x → ⊥
+pub no_leads : (g : Layout) (image : Image) (nodes : List ℕ) (x : ℕ) → IsLeadAmong g image nodes 0 x → ⊥
 no_leads g image nodes x l = omega (arith, l.first)
 
-pub more_leads : {g : Layout} {image : Image} {nodes : List LevelNode} {n : ℕ} {old new after : List ℕ} (one : LevelNode)
-    → AddsNumbers (IsLeadAmong g image nodes n) old new → slice_get nodes n ≡ Some one → AddsNumbers (IsLeadOf g image one.node 32) new after
+pub more_leads : {g : Layout} {image : Image} {nodes : List ℕ} {n : ℕ} {old new after : List ℕ} (node : ℕ)
+    → AddsNumbers (IsLeadAmong g image nodes n) old new → slice_get nodes n ≡ Some node → AddsNumbers (IsLeadOf g image node 32) new after
     → AddsNumbers (IsLeadAmong g image nodes (n + 1)) old after
-more_leads {g} {image} {nodes} {n} {old} {new} {after} one adds there more =
-    adds_more (IsLeadAmong g image nodes n) (IsLeadAmong g image nodes (n + 1)) (IsLeadOf g image one.node 32) adds more
-    (λ x l. record { index = l.index; first = omega (arith, l.first); one = l.one; there = l.there; lead = l.lead })
-    (λ x l. record { index = n; first = omega arith; one = one; there = there; lead = l })
+more_leads {g} {image} {nodes} {n} {old} {new} {after} node adds there more =
+    adds_more (IsLeadAmong g image nodes n) (IsLeadAmong g image nodes (n + 1)) (IsLeadOf g image node 32) adds more
+    (λ x l. record { index = l.index; first = omega (arith, l.first); node = l.node; there = l.there; lead = l.lead })
+    (λ x l. record { index = n; first = omega arith; node = node; there = there; lead = l })
     (λ x l. ⊎_elim
-    (λ (less : l.index < n). inl (record { index = l.index; first = less; one = l.one; there = l.there; lead = l.lead }))
-    (λ (last : l.index ≡ n). let both : Some one ≡ Some l.one = sym there ∙ subst (λ (k : ℕ). slice_get nodes k ≡ Some l.one) last l.there in
-    let e : one ≡ l.one = cc in inr (subst (λ (m : LevelNode). IsLeadOf g image m.node 32 x) (sym e) l.lead))
+    (λ (less : l.index < n). inl (record { index = l.index; first = less; node = l.node; there = l.there; lead = l.lead }))
+    (λ (last : l.index ≡ n). let both : Some node ≡ Some l.node = sym there ∙ subst (λ (k : ℕ). slice_get nodes k ≡ Some l.node) last l.there in
+    let e : node ≡ l.node = cc in inr (subst (λ (m : ℕ). IsLeadOf g image m 32 x) (sym e) l.lead))
     (below_or_at l.index n l.first))
 
--- what stands around the nodes of a tree
-pub are_around : {g : Layout} {image : Image} {nodes : List LevelNode} {blocks : List ListBlock} (around : Around) → AreNodes g image nodes
-    → AreBlocksForTwo g image blocks → AreAll (BeginsNode nodes (length nodes)) around.nodes.items
-    → AreAll (BeginsBlock blocks (length blocks)) around.blocks.items
-    → AreAll (IsLeadAmong g image nodes (length nodes)) around.leads.items → AreAround g image around
-are_around {g} {image} {nodes} {blocks} around tree lists starts of_blocks leads = record {
-  nodes = all_same (BeginsNode nodes (length nodes)) (λ x. (level : ℕ) × IsNode g image level x) starts
-      (λ x b. (b.one.level, subst (IsNode g image b.one.level) b.is (tree.each b.index b.one b.there)))
-      (λ x h. let a = tree.all h.0 x h.1 in
-      record { index = a.index; first = slice_get_within nodes a.index _ a.there; one = record { level = h.0; node = x }; there = a.there; is = refl });
-  blocks = all_same (BeginsBlock blocks (length blocks)) (λ x. (l : ℕ) × IsBlockOf g image l x) of_blocks
-      (λ x b. (b.one.list, subst (IsBlockOf g image b.one.list) b.is (lists.each b.index b.one b.there)))
-      (λ x h. ⊎_elim
-      (λ (a : IsAmongBlocks blocks h.0 x). begins a)
-      (λ (two : IsShared blocks x). begins two.first)
-      (lists.all h.0 x h.1));
-  leads = all_same (IsLeadAmong g image nodes (length nodes)) (λ x. (level : ℕ) × (node : ℕ) × IsNode g image level node × IsLeadOf g image node 32 x) leads
-      (λ x l. (l.one.level, l.one.node, tree.each l.index l.one l.there, l.lead))
-      (λ x h. let a = tree.all h.0 h.1 h.2 in
-      record { index = a.index; first = slice_get_within nodes a.index _ a.there; one = record { level = h.0; node = h.1 }; there = a.there; lead = h.3 });
+-- the nodes of a tree, those of its last level, and its child cells
+pub are_nodes : {g : Layout} {image : Image} (tree : TreeNodes) → AreAll (IsSomeNode g image) tree.nodes.items
+    → AreAll (IsNode g image 63) tree.last.items → AreAll (IsLeadAmong g image tree.nodes.items (length tree.nodes.items)) tree.leads.items
+    → AreNodes g image tree
+are_nodes {g} {image} tree nodes last leads = record {
+  nodes = nodes;
+  last = last;
+  leads = all_same (IsLeadAmong g image tree.nodes.items (length tree.nodes.items)) (λ x. (node : ℕ) × IsSomeNode g image node × IsLeadOf g image node 32 x) leads
+      (λ x l. let within = slice_get_within tree.nodes.items l.index l.node l.there in
+      (l.node, (nodes.each l.node).0 (l.index, within, get_or_from_slice_get tree.nodes.items l.index l.node l.node l.there), l.lead))
+      (λ x h. let c = (nodes.each h.0).1 h.1 in
+      record { index = c.0; first = c.1; node = h.0; there = slice_get-get_or tree.nodes.items c.0 h.0 c.1 ∙ ap (λ (m : ℕ). Some m) c.2; lead = h.2 });
 }
-  where
-    -- at a block that is listed for a list one begins
-    begins : {l x : ℕ} → IsAmongBlocks blocks l x → BeginsBlock blocks (length blocks) x
-    begins {l} {x} a = record { index = a.place; first = slice_get_within blocks a.place _ a.there; one = a.one; there = a.there; is = a.is }

@@ -17,7 +17,7 @@ use Rattle.tamper_rules.specs.Rules.{PathRule}
 use Rattle.document_store.proofs.Holding.{stands_held}
 use Rattle.log_audit.proofs.OneMore.{below_or_at}
 use Rattle.log_audit.proofs.Families.{AreFine}
-use Rattle.tree_audit.specs.Nodes.{HasChildInPool}
+use Rattle.tree_audit.specs.ChildCells.{HasChildInPool}
 use Rattle.tree_audit.specs.Paths.{HasRootTrail, IsOther}
 use Rattle.tree_audit.proofs.Closing.{one_target}
 

@@ -11,9 +11,13 @@ use Rattle.tamper_rules.specs.Journals.{journal_at}
 use Rattle.tamper_rules.specs.Rules.{LeadsDownWell}
 use Rattle.log_audit.specs.declared.stored.StoredSlot.{StoredSlot}
 
--- what rule 12 asks of a cell on account of this node of a level
-abbrev pub AsksChild : Layout → Image → ℕ → ℕ → ℕ → Type 0
-AsksChild g image v node cell = (x : ℕ) → x < 16 → cell ≡ node + 16 + x → LeadsDownWell g image v node x
+-- child cell x of this node leads down well, whatever levels the node has
+abbrev pub LeadsDownEach : Layout → Image → ℕ → ℕ → Type 0
+LeadsDownEach g image node x = (v : ℕ) → IsNode g image v node → LeadsDownWell g image v node x
+
+-- what rule 12 asks of a cell on account of this node
+abbrev pub AsksChildren : Layout → Image → ℕ → ℕ → Type 0
+AsksChildren g image node cell = (x : ℕ) → x < 16 → cell ≡ node + 16 + x → LeadsDownEach g image node x
 
 -- the slot's journal holds the same as this cell
 pub record HasCopyOf (image : Image) (s : StoredSlot) (cell : ℕ) : Type 0 where

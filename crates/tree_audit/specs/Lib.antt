@@ -1,9 +1,9 @@
-pub mod Around
 pub mod Buckets
+pub mod ChildCells
 pub mod Children
 pub mod Documents
 pub mod Leading
-pub mod Listing
 pub mod Nodes
+pub mod Numbers
 pub mod Occupied
 pub mod Paths

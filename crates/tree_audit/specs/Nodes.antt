@@ -1,16 +1,15 @@
 -- The nodes of a volume's tree of identifiers, found level after level.
-use Rattle.std.specs.Prelude.{◌≡◌, ◌<◌, ◌≤◌, ◌+◌, ◌↔◌, ◌⊎◌, ℕ, List, length, slice_get, slice_index, Option, Some, Contains}
+use Rattle.std.specs.Prelude.{◌≡◌, ◌<◌, ◌≤◌, ◌+◌, ◌↔◌, ◌⊎◌, ℕ, List, length, slice_index, Option, Some, true, Contains}
+use Rattle.std.specs.BTreeSet.{BTreeSet, contains}
+use Rattle.std.specs.Ordering.{nat_cmp}
 use Rattle.std.specs.List.Sorted.{IsStrictlyIncreasing}
 use Rattle.cell_types.specs.Image.{Image}
 use Rattle.cell_types.specs.Layout.{Layout}
-use Rattle.cell_types.specs.declared.record_cell.RecordCell.TheVariants.{Child}
 use Rattle.volume_meaning.specs.Nodes.{IsNode}
-use Rattle.log_audit.specs.Leads.{LeadsInto}
-use Rattle.tree_audit.specs.declared.nodes.LevelNode.{LevelNode}
-
--- the child cell there leads to a node whose cells lie in the pool
-abbrev pub HasChildInPool : Layout → Image → ℕ → ℕ → Type 0
-HasChildInPool g image at target = LeadsInto g image (λ (t : ℕ). Child t) 32 at target
+use Rattle.tree_audit.specs.ChildCells.{HasChildInPool, IsLeadOf}
+use Rattle.tree_audit.specs.Numbers.{AreAll}
+use Rattle.tree_audit.specs.declared.nodes.TheConstants.{LAST_LEVEL}
+use Rattle.tree_audit.specs.declared.nodes.TreeNodes.{TreeNodes}
 
 -- the cell is at the place of a child cell of the node
 pub record IsChildPlace (node at : ℕ) : Type 0 where
@@ -58,25 +57,18 @@ pub record AreOnLevel (g : Layout) (image : Image) (level : ℕ) (row : List ℕ
   pub each : (index : ℕ) → index < length row → IsNode g image level (slice_index row index)
   pub all : (node : ℕ) → IsNode g image level node → Contains row node
 
--- a row of nodes was put behind others, as those of a level
-pub record AddsLevel (level : ℕ) (row : List ℕ) (many : ℕ) (old new : List LevelNode) : Type 0 where
-  pub count : length new ≡ length old + many
-  pub kept : (i : ℕ) (n : LevelNode) → slice_get old i ≡ Some n → slice_get new i ≡ Some n
-  pub added : (k : ℕ) → k < many
-      → slice_get new (length old + k) ≡ Some (record { level = level; node = slice_index row k })
+-- the node is one of some level
+abbrev pub IsSomeNode : Layout → Image → ℕ → Type 0
+IsSomeNode g image node = (level : ℕ) × IsNode g image level node
 
--- it is a node of a lower level, or one of the same level and before
-abbrev pub IsBefore : LevelNode → LevelNode → Type 0
-IsBefore a b = (a.level < b.level) ⊎ ((a.level ≡ b.level) × (a.node < b.node))
+-- new has the numbers of old and those of the row; the fresh ones are of the row, all that old has not
+pub record AddsRow (row : List ℕ) (old new : BTreeSet ℕ) (fresh : List ℕ) : Type 0 where
+  pub each : (x : ℕ) → (contains nat_cmp new x ≡ true) ↔ ((contains nat_cmp old x ≡ true) ⊎ Contains row x)
+  pub fresh_is : (x : ℕ) → Contains fresh x → Contains row x
+  pub rest : (x : ℕ) → Contains row x → Contains fresh x ⊎ (contains nat_cmp old x ≡ true)
 
--- the node of this level is one of these
-pub record IsAmongNodes (nodes : List LevelNode) (level node : ℕ) : Type 0 where
-  pub index : ℕ
-  pub there : slice_get nodes index ≡ Some (record { level = level; node = node })
-
--- these are the nodes of the tree, each once at each of its levels
-pub record AreNodes (g : Layout) (image : Image) (nodes : List LevelNode) : Type 0 where
-  pub each : (i : ℕ) (n : LevelNode) → slice_get nodes i ≡ Some n → IsNode g image n.level n.node
-  pub all : (level node : ℕ) → IsNode g image level node → IsAmongNodes nodes level node
-  pub rising : (i j : ℕ) (a b : LevelNode) → i < j → slice_get nodes i ≡ Some a → slice_get nodes j ≡ Some b
-      → IsBefore a b
+-- These are the nodes of the tree, those of its last level, and the numbers of the child cells that lead to one.
+pub record AreNodes (g : Layout) (image : Image) (tree : TreeNodes) : Type 0 where
+  pub nodes : AreAll (IsSomeNode g image) tree.nodes.items
+  pub last : AreAll (IsNode g image LAST_LEVEL) tree.last.items
+  pub leads : AreAll (λ x. (node : ℕ) × IsSomeNode g image node × IsLeadOf g image node 32 x) tree.leads.items

@@ -1,56 +1,58 @@
 //! Rule 11: the buckets of nodes.
 ghost use Rattle.std.specs.Prelude.{◌<◌, ◌+◌, ◌^◌, ◌↔◌, IsTrue};
-ghost use Rattle.volume_meaning.specs.Nodes.{IsNode};
 ghost use Rattle.tamper_rules.specs.Rules.{Buckets, Documents, IsTrueBucket};
 ghost use Rattle.log_audit.specs.KeptVolumes.{FindsIn, FindsPartIn, HasAllCells, IsStated, KeepsRule, image_in};
 ghost use Rattle.tree_audit.specs.Buckets.{AsksBucket};
-ghost use Rattle.tree_audit.specs.Nodes.{AreNodes};
+ghost use Rattle.tree_audit.specs.Nodes.{AreNodes, IsSomeNode};
 
 use crate::documents::identifier_digest;
 use crate::looks::bucket_at;
-use crate::nodes::LevelNode;
+use crate::nodes::TreeNodes;
 use crate::paths::goes_by;
+use crate::rows::cell_of;
 use cell_types::Evidence;
 use log_audit::{KeptVolume, lies_behind, lower_of};
 use tamper_rules::FAKE_BUCKET;
 use volume_meaning::NODE_BUCKETS;
 
 /// The least bucket at which rule 11 is broken, among those of all nodes, where rule 4 is kept.
-pub fn first_broken_bucket(volume: &KeptVolume, nodes: &[LevelNode]) -> Option<Evidence>
+pub fn first_broken_bucket(volume: &KeptVolume, nodes: &TreeNodes) -> Option<Evidence>
     requires stated { IsStated volume.now }
     requires count { HasAllCells volume.now }
     requires documents { KeepsRule volume.now Documents }
     requires nodes { AreNodes volume.now.geometry (image_in volume.now) nodes.now }
     ensures { FindsIn volume.now Buckets result }
 {
+    let _cells = volume.geometry.cells();
     let mut least = None;
-    for place in nodes {
-        // Nodes may meet where cells were tampered with, and they do not come by rising cells.
-        if lies_behind(&least, place.node) {
+    for number in &nodes.nodes {
+        let node = cell_of(*number);
+        // Nodes may meet where cells were tampered with, and what lies behind was found.
+        if lies_behind(&least, node) {
             continue;
         }
-        let found = broken_in_node(volume, place);
+        let found = broken_in_node(volume, node);
         least = lower_of(least, found);
     }
     least
 }
 
 /// The first bucket of a node at which rule 11 is broken.
-fn broken_in_node(volume: &KeptVolume, place: &LevelNode) -> Option<Evidence>
+fn broken_in_node(volume: &KeptVolume, node: u32) -> Option<Evidence>
     requires stated { IsStated volume.now }
     requires count { HasAllCells volume.now }
     requires documents { KeepsRule volume.now Documents }
-    requires node { IsNode volume.now.geometry (image_in volume.now) place.now.level place.now.node }
+    requires node { IsSomeNode volume.now.geometry (image_in volume.now) node }
     ensures { FindsPartIn volume.now Buckets
-        (AsksBucket volume.now.geometry (image_in volume.now) place.now.node) result }
+        (AsksBucket volume.now.geometry (image_in volume.now) node) result }
 {
     let _cells = volume.geometry.cells();
     for x in 0..NODE_BUCKETS {
-        let cell = place.node + x;
+        let cell = node + x;
         let Some(found) = volume.kept.at(cell) else {
             continue;
         };
-        if is_true_bucket(volume, place.node, x) {
+        if is_true_bucket(volume, node, x) {
             continue;
         }
         return Some(Evidence {

@@ -1,71 +1,76 @@
 //! Rule 12: the child cells of nodes.
-ghost use Rattle.std.specs.Prelude.{◌≡◌, ◌<◌, ◌≤◌, ◌+◌, ◌^◌, ◌↔◌, Some, IsTrue, IfOk};
+ghost use Rattle.std.specs.Prelude.{◌≡◌, ◌<◌, ◌≤◌, ◌+◌, ◌^◌, ◌↔◌, Some, IsTrue};
 ghost use Rattle.cell_types.specs.Layout.{pool_at};
-ghost use Rattle.volume_meaning.specs.Nodes.{IsNode};
-ghost use Rattle.tamper_rules.specs.Rules.{Children, Journals, LeadsDownWell, ReserveCells};
+ghost use Rattle.tamper_rules.specs.Rules.{Children, Journals, ReserveCells};
 ghost use Rattle.log_audit.specs.KeptVolumes.{FindsIn, FindsPartIn, KeepsRule, image_in};
 ghost use Rattle.log_audit.specs.Kept.{image_of_kept};
 ghost use Rattle.log_audit.specs.Findings.{IsMetAll};
 ghost use Rattle.log_audit.specs.Stored.{IsStored};
 ghost use Rattle.slot_audit.specs.Copying.{HasTarget};
 ghost use Rattle.list_audit.specs.Blocks.{AreBlocksForTwo};
-ghost use Rattle.tree_audit.specs.Around.{AreAround};
-ghost use Rattle.tree_audit.specs.Children.{AsksChild, HasCopyOf, IsClear, IsJournaled, IsWellLed};
-ghost use Rattle.tree_audit.specs.Nodes.{AreNodes, HasChildInPool};
+ghost use Rattle.tree_audit.specs.ChildCells.{HasChildInPool};
+ghost use Rattle.tree_audit.specs.Children.{AsksChildren, HasCopyOf, IsClear, IsJournaled, IsWellLed, LeadsDownEach};
+ghost use Rattle.tree_audit.specs.Nodes.{AreNodes, IsSomeNode};
 
-use crate::around::{Around, TARGET_STEP, around_of};
+use crate::child_cells::TARGET_STEP;
 use crate::looks::child_at;
-use crate::nodes::{LAST_LEVEL, LevelNode};
-use cell_types::{Cell, Evidence, Geometry, NoMemory};
-use list_audit::ListBlock;
+use crate::nodes::TreeNodes;
+use crate::rows::cell_of;
+use cell_types::{Cell, Evidence, Geometry};
+use list_audit::{BLOCK_STEP, ListBlocks};
 use log_audit::{KeptCells, KeptVolume, StoredSlot, has_between, lies_behind, lower_of};
 use slot_audit::journal_place_of;
-use std::alloc::Global;
 use tamper_rules::LOST_CHILD;
 use volume_meaning::{BLOCK_CELLS, NODE_BUCKETS, NODE_CELLS};
 
 /// The least child cell at which rule 12 is broken, among those of all nodes, where rules 1 and 5 are kept.
 pub fn first_broken_child(
-    alloc: Global,
     volume: &KeptVolume,
-    nodes: &[LevelNode],
-    blocks: &[ListBlock],
-) -> Result<Option<Evidence>, NoMemory>
+    blocks: &ListBlocks,
+    nodes: &TreeNodes,
+) -> Option<Evidence>
     requires met { KeepsRule volume.now ReserveCells }
     requires journals { KeepsRule volume.now Journals }
-    requires nodes { AreNodes volume.now.geometry (image_in volume.now) nodes.now }
     requires blocks { AreBlocksForTwo volume.now.geometry (image_in volume.now) blocks.now }
-    ensures { IfOk result (λ found. FindsIn volume.now Children found) }
+    requires nodes { AreNodes volume.now.geometry (image_in volume.now) nodes.now }
+    ensures { FindsIn volume.now Children result }
 {
-    let around = around_of(alloc, &volume.kept, &volume.geometry, nodes, blocks)?;
+    let _cells = volume.geometry.cells();
     let mut least = None;
-    for place in nodes {
-        // Nodes do not come by rising cells, and no child cell behind the least is asked for.
-        if lies_behind(&least, place.node) {
+    for number in &nodes.nodes {
+        let node = cell_of(*number);
+        // Nodes may meet where cells were tampered with, and no child cell behind the least is asked for.
+        if lies_behind(&least, node) {
             continue;
         }
-        let found = broken_under(volume, &around, place);
+        let found = broken_under(volume, blocks, nodes, node);
         least = lower_of(least, found);
     }
-    Ok(least)
+    least
 }
 
 /// The first child cell of a node at which rule 12 is broken.
-fn broken_under(volume: &KeptVolume, around: &Around, place: &LevelNode) -> Option<Evidence>
+fn broken_under(
+    volume: &KeptVolume,
+    blocks: &ListBlocks,
+    nodes: &TreeNodes,
+    node: u32,
+) -> Option<Evidence>
     requires met { KeepsRule volume.now ReserveCells }
     requires journals { KeepsRule volume.now Journals }
-    requires around { AreAround volume.now.geometry (image_in volume.now) around.now }
-    requires node { IsNode volume.now.geometry (image_in volume.now) place.now.level place.now.node }
+    requires blocks { AreBlocksForTwo volume.now.geometry (image_in volume.now) blocks.now }
+    requires nodes { AreNodes volume.now.geometry (image_in volume.now) nodes.now }
+    requires node { IsSomeNode volume.now.geometry (image_in volume.now) node }
     ensures { FindsPartIn volume.now Children
-        (AsksChild volume.now.geometry (image_in volume.now) place.now.level place.now.node) result }
+        (AsksChildren volume.now.geometry (image_in volume.now) node) result }
 {
     let _cells = volume.geometry.cells();
     for x in 0..NODE_BUCKETS {
-        let cell = place.node + NODE_BUCKETS + x;
+        let cell = node + NODE_BUCKETS + x;
         let Some(found) = volume.kept.at(cell) else {
             continue;
         };
-        if leads_down_well(volume, around, place, x) {
+        if leads_down_well(volume, blocks, nodes, node, x) {
             continue;
         }
         return Some(Evidence {
@@ -77,33 +82,48 @@ fn broken_under(volume: &KeptVolume, around: &Around, place: &LevelNode) -> Opti
     None
 }
 
-/// Whether child cell x of a node leads down well.
-fn leads_down_well(volume: &KeptVolume, around: &Around, place: &LevelNode, x: u32) -> bool
+/// Whether child cell x of a node leads down well, whatever levels the node has: below the last one there is none.
+fn leads_down_well(
+    volume: &KeptVolume,
+    blocks: &ListBlocks,
+    nodes: &TreeNodes,
+    node: u32,
+    x: u32,
+) -> bool
     requires met { KeepsRule volume.now ReserveCells }
     requires journals { KeepsRule volume.now Journals }
-    requires around { AreAround volume.now.geometry (image_in volume.now) around.now }
-    requires inside { place.now.node + 16 + x < 2 ^ 31 }
-    ensures { IsTrue result ↔ LeadsDownWell volume.now.geometry (image_in volume.now) place.now.level place.now.node x }
+    requires blocks { AreBlocksForTwo volume.now.geometry (image_in volume.now) blocks.now }
+    requires nodes { AreNodes volume.now.geometry (image_in volume.now) nodes.now }
+    requires node { IsSomeNode volume.now.geometry (image_in volume.now) node }
+    requires inside { node + 16 + x < 2 ^ 31 }
+    ensures { IsTrue result ↔ LeadsDownEach volume.now.geometry (image_in volume.now) node x }
 {
-    let cell = place.node + NODE_BUCKETS + x;
+    let cell = node + NODE_BUCKETS + x;
     let Some(target) = child_at(&volume.kept, &volume.geometry, cell) else {
         return false;
     };
-    if place.level >= LAST_LEVEL {
+    if nodes.is_last(&volume.kept, &volume.geometry, node) {
         return false;
     }
-    if volume.kept.at(place.node + x).is_none() {
+    if volume.kept.at(node + x).is_none() {
         return false;
     }
-    is_well_led(volume, around, cell, target)
+    is_well_led(volume, blocks, nodes, cell, target)
 }
 
 /// Whether the target of a child cell lies before the edge, is journaled with the cell and is clear, and the cell is
 /// the first to it.
-fn is_well_led(volume: &KeptVolume, around: &Around, cell: u32, target: u32) -> bool
+fn is_well_led(
+    volume: &KeptVolume,
+    blocks: &ListBlocks,
+    nodes: &TreeNodes,
+    cell: u32,
+    target: u32,
+) -> bool
     requires met { KeepsRule volume.now ReserveCells }
     requires journals { KeepsRule volume.now Journals }
-    requires around { AreAround volume.now.geometry (image_in volume.now) around.now }
+    requires blocks { AreBlocksForTwo volume.now.geometry (image_in volume.now) blocks.now }
+    requires nodes { AreNodes volume.now.geometry (image_in volume.now) nodes.now }
     requires inside { cell < 2 ^ 31 }
     requires leads { HasChildInPool volume.now.geometry (image_in volume.now) cell target }
     ensures { IsTrue result ↔ IsWellLed volume.now.geometry (image_in volume.now) cell target }
@@ -116,10 +136,10 @@ fn is_well_led(volume: &KeptVolume, around: &Around, cell: u32, target: u32) -> 
         return false;
     }
     let number = u64::from(target) * TARGET_STEP;
-    if has_between(&around.leads, number, number + u64::from(cell)) {
+    if has_between(&nodes.leads, number, number + u64::from(cell)) {
         return false;
     }
-    is_clear(&volume.kept, &volume.geometry, around, target)
+    is_clear(&volume.kept, &volume.geometry, blocks, nodes, target)
 }
 
 /// Whether the slot in whose blocks the target lies has a copy of the child cell in its journal.
@@ -173,8 +193,15 @@ fn holds(kept: &KeptCells, at: u32, own: Cell) -> bool
 }
 
 /// Whether the 32 cells from the target on meet no block and no other node.
-fn is_clear(kept: &KeptCells, geometry: &Geometry, around: &Around, target: u32) -> bool
-    requires around { AreAround geometry.now (image_of_kept kept.now) around.now }
+fn is_clear(
+    kept: &KeptCells,
+    geometry: &Geometry,
+    blocks: &ListBlocks,
+    nodes: &TreeNodes,
+    target: u32,
+) -> bool
+    requires blocks { AreBlocksForTwo geometry.now (image_of_kept kept.now) blocks.now }
+    requires nodes { AreNodes geometry.now (image_of_kept kept.now) nodes.now }
     requires from { pool_at geometry.now ≤ target }
     ensures { IsTrue result ↔ IsClear geometry.now (image_of_kept kept.now) target }
 {
@@ -182,13 +209,14 @@ fn is_clear(kept: &KeptCells, geometry: &Geometry, around: &Around, target: u32)
     let at = u64::from(target);
     let behind = at + u64::from(NODE_CELLS);
     // What begins before the target reaches into it where it begins less than its own length before.
-    if has_between(&around.blocks, at + 1 - u64::from(BLOCK_CELLS), behind) {
+    let first = at + 1 - u64::from(BLOCK_CELLS);
+    if has_between(&blocks.numbers, first * BLOCK_STEP, behind * BLOCK_STEP) {
         return false;
     }
-    if has_between(&around.nodes, at + 1 - u64::from(NODE_CELLS), at) {
+    if has_between(&nodes.nodes, at + 1 - u64::from(NODE_CELLS), at) {
         return false;
     }
-    if has_between(&around.nodes, at + 1, behind) {
+    if has_between(&nodes.nodes, at + 1, behind) {
         return false;
     }
     true

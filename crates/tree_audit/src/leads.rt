@@ -4,28 +4,32 @@ ghost use Rattle.cell_types.specs.declared.record_cell.RecordCell.TheVariants.{J
 ghost use Rattle.volume_meaning.specs.Nodes.{IsBlockOf};
 ghost use Rattle.volume_meaning.specs.Volumes.{Holds};
 ghost use Rattle.tamper_rules.specs.Rules.{LeadsWell};
+ghost use Rattle.list_audit.specs.Blocks.{AreBlocksForTwo};
 ghost use Rattle.log_audit.specs.KeptVolumes.{KeepsBelow, image_in};
 ghost use Rattle.log_audit.specs.Kept.{image_of_kept};
 ghost use Rattle.tree_audit.specs.Leading.{IsBeforeEdge, IsOwned};
-ghost use Rattle.tree_audit.specs.Occupied.{AreOccupied};
+ghost use Rattle.tree_audit.specs.Nodes.{AreNodes};
 
-use crate::occupied::OccupiedCells;
+use crate::nodes::TreeNodes;
+use crate::occupied::{is_alone, is_off_nodes};
 use crate::spans::is_in_span;
 use cell_types::{Geometry, RecordCell};
-use list_audit::ListBlock;
+use list_audit::{ListBlock, ListBlocks};
 use log_audit::{KeptCells, KeptVolume, Log, record_at};
 use volume_meaning::BLOCK_CELLS;
 
 /// Whether the pointer of this level and digit leads well from a block.
 pub(crate) fn leads_well(
     volume: &KeptVolume,
-    occupied: &OccupiedCells,
+    blocks: &ListBlocks,
+    nodes: &TreeNodes,
     listed: &ListBlock,
     level: u32,
     digit: u32,
 ) -> bool
     requires met { KeepsBelow volume.now 10 }
-    requires occupied { AreOccupied volume.now.geometry (image_in volume.now) occupied.now }
+    requires blocks { AreBlocksForTwo volume.now.geometry (image_in volume.now) blocks.now }
+    requires nodes { AreNodes volume.now.geometry (image_in volume.now) nodes.now }
     requires block { IsBlockOf volume.now.geometry (image_in volume.now) listed.now.list listed.now.block }
     requires room { listed.now.block + 256 ≤ 2 ^ 31 }
     requires level { level < 8 }
@@ -47,10 +51,10 @@ pub(crate) fn leads_well(
     if !is_in_span(&volume.kept, &volume.geometry, listed, level, digit, target) {
         return false;
     }
-    if !occupied.is_alone(&volume.kept, &volume.geometry, listed.list, target) {
+    if !is_alone(&volume.kept, &volume.geometry, blocks, listed.list, target) {
         return false;
     }
-    occupied.is_off_nodes(&volume.kept, &volume.geometry, target)
+    is_off_nodes(&volume.kept, &volume.geometry, nodes, target)
 }
 
 /// The target of the jump cell that stands there, if one does.

@@ -19,10 +19,10 @@
 //!     rule 14, cell 6      560 is the bucket of slot 0                         else broken at 6
 //!
 //! Nobody says that the tree is a good one: child cells may lead in a circle, so that a node stands at many levels, and
-//! nodes may meet. `nodes_of` finds each node once a level, level after level, and follows a child cell of nodes that meet
-//! once a level; and since no rule is checked by rising cells then, what is found at one node is joined with what was
-//! found before by `log_audit::lower_of`. What meets a node is found by bisection, among the rising numbers of where nodes
-//! and blocks begin.
+//! nodes may meet. What rules 10 to 12 ask of a node is the same at each of its levels, but for the last one, below which
+//! there is none. So `nodes_of` finds each node once, and those of the last level besides, level after level until two
+//! have the same nodes. Since nodes may meet, what is found at one of them is joined with what was found before by
+//! `log_audit::lower_of`. What meets a node is found by bisection, among the rising numbers of where nodes and blocks begin.
 //!
 //! A document stands on the volume that cell 0 states. So who asks about documents shows first that cell 0 states this
 //! volume. Rules 11 and 14 need that rule 4 is kept: then an identifier is known by the first cells of its document, and a
@@ -34,8 +34,8 @@
 //! `pointers.rt`: which blocks a pointer's target meets is asked as it is asked of nodes.
 #![tactic(auto)]
 
-mod around;
 mod buckets;
+mod child_cells;
 mod children;
 mod documents;
 mod leads;
@@ -44,12 +44,12 @@ mod nodes;
 mod occupied;
 mod paths;
 mod pointers;
+mod rows;
 mod spans;
 mod trails;
 
 pub use buckets::first_broken_bucket;
 pub use children::first_broken_child;
-pub use nodes::{LevelNode, nodes_of};
-pub use occupied::OccupiedCells;
+pub use nodes::{TreeNodes, nodes_of};
 pub use pointers::first_broken_pointer;
 pub use trails::first_broken_path;

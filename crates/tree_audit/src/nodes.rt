@@ -1,138 +1,100 @@
 //! The nodes of the tree.
-ghost use Rattle.std.specs.Prelude.{◌≡◌, ◌<◌, ◌≤◌, ◌+◌, ◌^◌, ℕ, IfOk, OnOk, length, Contains};
-ghost use Rattle.std.specs.List.Sorted.{IsStrictlyIncreasing};
+ghost use Rattle.std.specs.Prelude.{◌≡◌, ◌<◌, ◌≤◌, ◌^◌, ◌↔◌, IfOk, IsTrue};
 ghost use Rattle.log_audit.specs.Kept.{image_of_kept};
-ghost use Rattle.tree_audit.specs.Nodes.{AreNodesInside, AreNodes, AreOnLevel, AreUnder, AddsLevel, AddsChildTargets, IsLastPlace, IsTarget};
+ghost use Rattle.volume_meaning.specs.Nodes.{IsNode};
+ghost use Rattle.tree_audit.specs.Nodes.{AddsRow, AreNodes, AreOnLevel, IsSomeNode};
+ghost use Rattle.tree_audit.specs.Numbers.{AreAll};
 
-use crate::looks::child_at;
+use crate::child_cells::leads_of;
+use crate::rows::{root_row, row_under};
 use cell_types::{Geometry, NoMemory, memory};
-use log_audit::KeptCells;
+use log_audit::{KeptCells, has_between, numbers_of};
 use std::alloc::Global;
-use volume_meaning::{NODE_BUCKETS, NODE_CELLS};
+use std::collections::BTreeSet;
 
 /// A digest has 64 half bytes, so there is no level below this one.
 pub(crate) const LAST_LEVEL: u8 = 63;
 
-/// A node, and a level at which the tree has it. Where cells were tampered with, one node may stand at several levels.
-#[derive(Clone, Copy, Debug, PartialEq, Eq)]
-pub struct LevelNode {
-    pub level: u8,
-    /// The first of its cells.
-    pub node: u32,
+/// The nodes of the tree. Where cells were tampered with, one node may stand at several levels.
+#[derive(Drop)]
+pub struct TreeNodes {
+    /// The first cell of each node, by rising numbers, whatever levels it has.
+    pub nodes: Vec<u64>,
+    /// Those of the last level.
+    pub last: Vec<u64>,
+    /// Of each child cell of a node that leads to one, by rising numbers: `TARGET_STEP` times that one, plus the child cell.
+    pub(crate) leads: Vec<u64>,
 }
 
-/// The nodes of the tree, each once at each of its levels: the root, and then level after level.
-pub fn nodes_of(
-    alloc: Global,
-    kept: &KeptCells,
-    geometry: &Geometry,
-) -> Result<Vec<LevelNode>, NoMemory>
-    ensures { IfOk result (λ nodes. AreNodes geometry.now (image_of_kept kept.now) nodes.items) }
+impl TreeNodes {
+    /// Whether the node is one of the last level.
+    pub(crate) fn is_last(&self, _kept: &KeptCells, _geometry: &Geometry, node: u32) -> bool
+        requires { AreNodes _geometry.now (image_of_kept _kept.now) self.now }
+        ensures { IsTrue result ↔ IsNode _geometry.now (image_of_kept _kept.now) LAST_LEVEL node }
+    {
+        let first = u64::from(node);
+        has_between(&self.last, first, first + 1)
+    }
+}
+
+/// The nodes of the tree. Each is found once, those of the last level besides, and a child cell of nodes that meet on one
+/// level is followed once there.
+///
+/// # Errors
+///
+/// `NoMemory`.
+pub fn nodes_of(alloc: Global, kept: &KeptCells, geometry: &Geometry) -> Result<TreeNodes, NoMemory>
+    ensures { IfOk result (λ tree. AreNodes geometry.now (image_of_kept kept.now) tree) }
+{
+    let nodes = all_nodes(alloc, kept, geometry)?;
+    let last = last_nodes(alloc, kept, geometry)?;
+    let leads = leads_of(alloc, kept, geometry, &nodes)?;
+    Ok(TreeNodes { nodes, last, leads })
+}
+
+/// The nodes of all levels, each once. What a node leads to is the same at each of its levels, so it is asked at the first.
+fn all_nodes(alloc: Global, kept: &KeptCells, geometry: &Geometry) -> Result<Vec<u64>, NoMemory>
+    ensures { IfOk result (λ nodes. AreAll (IsSomeNode geometry.now (image_of_kept kept.now)) nodes.items) }
 {
     let _cells = geometry.cells();
-    let mut nodes = Vec::new(alloc);
-    let mut row = root_row(alloc, kept, geometry)?;
-    for level in 0..LAST_LEVEL {
-        push_row(&mut nodes, level, &row)?;
-        row = row_under(alloc, kept, geometry, &row)?;
+    let mut seen = BTreeSet::new(alloc);
+    let root = root_row(alloc, kept, geometry)?;
+    let mut row = unseen(alloc, &mut seen, &root)?;
+    for _level in 0..LAST_LEVEL {
+        let under = row_under(alloc, kept, geometry, &row)?;
+        row = unseen(alloc, &mut seen, &under)?;
     }
-    push_row(&mut nodes, LAST_LEVEL, &row)?;
-    Ok(nodes)
+    numbers_of(alloc, &seen)
 }
 
-/// The root alone.
-fn root_row(alloc: Global, _kept: &KeptCells, geometry: &Geometry) -> Result<Vec<u32>, NoMemory>
-    ensures { IfOk result (λ row. AreOnLevel geometry.now (image_of_kept _kept.now) 0 row.items) }
+/// The nodes of a row that were not seen before. From now on they were.
+fn unseen(alloc: Global, seen: &mut BTreeSet<u64>, row: &[u64]) -> Result<Vec<u64>, NoMemory>
+    ensures { IfOk result (λ fresh. AddsRow row.now seen.old seen.new fresh.items) }
 {
-    let mut row = Vec::new(alloc);
-    memory::push(&mut row, geometry.root_at())?;
-    Ok(row)
-}
-
-/// Puts the nodes of a level behind those of the levels above it.
-fn push_row(nodes: &mut Vec<LevelNode>, level: u8, row: &[u32]) -> Result<(), NoMemory>
-    ensures { OnOk result (AddsLevel level row.now (length row.now) nodes.old.items nodes.new.items) }
-{
-    for node in row {
-        memory::push(nodes, LevelNode { level, node: *node })?;
-    }
-    Ok(())
-}
-
-/// The nodes to which the child cells of these lead, each once, by rising numbers.
-fn row_under(
-    alloc: Global,
-    kept: &KeptCells,
-    geometry: &Geometry,
-    row: &[u32],
-) -> Result<Vec<u32>, NoMemory>
-    requires { AreNodesInside geometry.now row.now }
-    ensures { IfOk result (λ under. AreUnder geometry.now (image_of_kept kept.now) row.now under.items) }
-{
-    let _cells = geometry.cells();
-    let mut under = Vec::new(alloc);
-    let mut last: Option<u32> = None;
-    for node in row {
-        let first = first_place_behind(*node, last);
-        push_targets(kept, geometry, *node, first, &mut under)?;
-        last = Some(*node);
-    }
-    // Two child cells may lead to one node.
-    sort_once(&mut under);
-    Ok(under)
-}
-
-/// The first place of a child cell of a node that is none of the last node's. Nodes may meet where cells were tampered
-/// with, and a child cell of two of them is followed once.
-fn first_place_behind(node: u32, last: Option<u32>) -> u32
-    ensures from { NODE_BUCKETS ≤ result }
-    ensures to { result ≤ NODE_CELLS }
-    ensures passed { (place : ℕ) → 16 ≤ place → place < result → IsLastPlace last (node + place) }
-{
-    let Some(before) = last else {
-        return NODE_BUCKETS;
-    };
-    if node <= before {
-        return NODE_BUCKETS;
-    }
-    let step = node - before;
-    if step >= NODE_BUCKETS {
-        return NODE_BUCKETS;
-    }
-    NODE_CELLS - step
-}
-
-/// Adds the node to which each child cell of this one from this place on leads, where the others were added.
-fn push_targets(
-    kept: &KeptCells,
-    geometry: &Geometry,
-    node: u32,
-    first: u32,
-    targets: &mut Vec<u32>,
-) -> Result<(), NoMemory>
-    requires inside { node + 32 < 2 ^ 32 }
-    requires from { NODE_BUCKETS ≤ first }
-    requires to { first ≤ NODE_CELLS }
-    requires added { (target : ℕ) → IsTarget geometry.now (image_of_kept kept.now) node first target
-        → Contains targets.old.items target }
-    ensures { OnOk result (AddsChildTargets geometry.now (image_of_kept kept.now) node 32
-        targets.old.items targets.new.items) }
-{
-    for place in first..NODE_CELLS {
-        let Some(target) = child_at(kept, geometry, node + place) else {
+    let mut fresh = Vec::new(alloc);
+    for number in row {
+        let is_new = memory::insert_new(seen, *number)?;
+        if !is_new {
             continue;
-        };
-        memory::push(targets, target)?;
+        }
+        memory::push(&mut fresh, *number)?;
     }
-    Ok(())
+    Ok(fresh)
 }
 
-/// Sorts the numbers, and keeps each of them once.
-fn sort_once(numbers: &mut Vec<u32>)
-    ensures rises { IsStrictlyIncreasing numbers.new.items }
-    ensures keeps { (x : ℕ) → Contains numbers.old.items x → Contains numbers.new.items x }
-    ensures adds_none { (x : ℕ) → Contains numbers.new.items x → Contains numbers.old.items x }
+/// The nodes of the last level.
+fn last_nodes(alloc: Global, kept: &KeptCells, geometry: &Geometry) -> Result<Vec<u64>, NoMemory>
+    ensures { IfOk result (λ row. AreOnLevel geometry.now (image_of_kept kept.now) LAST_LEVEL row.items) }
 {
-    numbers.sort_unstable();
-    numbers.dedup();
+    let _cells = geometry.cells();
+    let mut row = root_row(alloc, kept, geometry)?;
+    for _level in 0..LAST_LEVEL {
+        let under = row_under(alloc, kept, geometry, &row)?;
+        if under == row {
+            // So each level from here on has these nodes.
+            return Ok(row);
+        }
+        row = under;
+    }
+    Ok(row)
 }

@@ -10,24 +10,19 @@
 //!     its span      32,512 + 2 * 256 = 33,024 and 255 keys more
 //!     kept          where a posting with such a key stands at one of the cells 9000 to 9127
 //!
-//! Which blocks and nodes a target meets is asked of two rows of numbers in order, of 8 bytes a block and a node, by
-//! bisection.
-ghost use Rattle.std.specs.Prelude.{◌<◌, ◌+◌, IfOk};
+//! Which blocks and nodes a target meets is asked of their numbers in order, by bisection.
 ghost use Rattle.volume_meaning.specs.Nodes.{IsBlockOf};
 ghost use Rattle.tamper_rules.specs.Rules.{Pointers};
 ghost use Rattle.log_audit.specs.KeptVolumes.{FindsIn, FindsPartIn, KeepsBelow, image_in};
 ghost use Rattle.list_audit.specs.Blocks.{AreBlocksForTwo};
 ghost use Rattle.tree_audit.specs.Nodes.{AreNodes};
 ghost use Rattle.tree_audit.specs.Leading.{PointerAsks};
-ghost use Rattle.tree_audit.specs.Occupied.{AreOccupied};
 
 use crate::leads::leads_well;
-use crate::nodes::LevelNode;
-use crate::occupied::OccupiedCells;
-use cell_types::{Evidence, NoMemory};
-use list_audit::ListBlock;
+use crate::nodes::TreeNodes;
+use cell_types::Evidence;
+use list_audit::{ListBlock, ListBlocks};
 use log_audit::{KeptVolume, lies_behind, lower_of};
-use std::alloc::Global;
 use tamper_rules::LOST_POINTER;
 
 /// How many pointer places a block has, and the first of them.
@@ -38,42 +33,38 @@ const FIRST_POINTER: u32 = 128;
 /// How many digits a level has.
 const DIGITS: u32 = 15;
 
-/// The least pointer place at which rule 10 is broken. It takes 8 bytes a block and a node.
-///
-/// # Errors
-///
-/// `NoMemory`.
+/// The least pointer place at which rule 10 is broken.
 pub fn first_broken_pointer(
-    alloc: Global,
     volume: &KeptVolume,
-    blocks: &[ListBlock],
-    nodes: &[LevelNode],
-) -> Result<Option<Evidence>, NoMemory>
+    blocks: &ListBlocks,
+    nodes: &TreeNodes,
+) -> Option<Evidence>
     requires met { KeepsBelow volume.now 10 }
     requires blocks { AreBlocksForTwo volume.now.geometry (image_in volume.now) blocks.now }
     requires nodes { AreNodes volume.now.geometry (image_in volume.now) nodes.now }
-    ensures { IfOk result (λ found. FindsIn volume.now Pointers found) }
+    ensures { FindsIn volume.now Pointers result }
 {
-    let occupied = OccupiedCells::of(alloc, &volume.kept, &volume.geometry, blocks, nodes)?;
     let mut least = None;
-    for block in blocks {
-        // Blocks may meet where cells were tampered with, and they do not come by rising cells.
+    for block in &blocks.blocks {
+        // Blocks may meet where cells were tampered with, and what lies behind was found.
         if lies_behind(&least, block.block) {
             continue;
         }
-        least = lower_of(least, first_in_block(volume, &occupied, block));
+        least = lower_of(least, first_in_block(volume, blocks, nodes, block));
     }
-    Ok(least)
+    least
 }
 
 /// The first pointer place of a block at which rule 10 is broken.
 fn first_in_block(
     volume: &KeptVolume,
-    occupied: &OccupiedCells,
+    blocks: &ListBlocks,
+    nodes: &TreeNodes,
     listed: &ListBlock,
 ) -> Option<Evidence>
     requires met { KeepsBelow volume.now 10 }
-    requires occupied { AreOccupied volume.now.geometry (image_in volume.now) occupied.now }
+    requires blocks { AreBlocksForTwo volume.now.geometry (image_in volume.now) blocks.now }
+    requires nodes { AreNodes volume.now.geometry (image_in volume.now) nodes.now }
     requires block { IsBlockOf volume.now.geometry (image_in volume.now) listed.now.list listed.now.block }
     ensures { FindsPartIn volume.now Pointers
         (PointerAsks volume.now.geometry (image_in volume.now) listed.now.list listed.now.block) result }
@@ -86,7 +77,8 @@ fn first_in_block(
         };
         if !leads_well(
             volume,
-            occupied,
+            blocks,
+            nodes,
             listed,
             pointer / DIGITS,
             pointer % DIGITS + 1,

@@ -3,7 +3,7 @@ ghost use Rattle.std.specs.Prelude.{◌≡◌};
 ghost use Rattle.volume_meaning.specs.Volumes.{IsVolume};
 ghost use Rattle.log_audit.specs.Kept.{image_of_kept, count_of};
 ghost use Rattle.log_audit.specs.KeptVolumes.{HasAllCells, IsStated, KeepsBelow, image_in};
-ghost use Rattle.list_audit.specs.Blocks.{AreBlocksForTwo, AreNumbered};
+ghost use Rattle.list_audit.specs.Blocks.{AreBlocksForTwo};
 ghost use Rattle.list_audit.specs.Owed.{IsAllOwed};
 ghost use Rattle.tree_audit.specs.Nodes.{AreNodes};
 ghost use Rattle.volume_audit.specs.Judging.{Judges, Passes, RefusesFound};
@@ -12,7 +12,7 @@ use crate::report::{AuditReport, report_of};
 use cell_types::{Evidence, Geometry, Refusal};
 use host_ports::Meter;
 use list_audit::{
-    ListBlock, ListBlocks, OwedPostings, blocks_for_two, first_broken_entry, first_broken_posting,
+    ListBlocks, OwedPostings, blocks_for_two, first_broken_entry, first_broken_posting,
     first_broken_trail, owed_postings,
 };
 use log_audit::{KeptCells, KeptVolume, check_log};
@@ -22,7 +22,7 @@ use slot_audit::{
 };
 use std::alloc::Global;
 use tree_audit::{
-    LevelNode, first_broken_bucket, first_broken_child, first_broken_path, first_broken_pointer,
+    TreeNodes, first_broken_bucket, first_broken_child, first_broken_path, first_broken_pointer,
     nodes_of,
 };
 
@@ -46,7 +46,7 @@ pub(crate) fn judge<M: Meter>(
     check_slots(alloc, &volume)?;
     let blocks = blocks_for_two(alloc, &volume.kept, &volume.geometry)?;
     let nodes = nodes_of(alloc, &volume.kept, &volume.geometry)?;
-    check_entries(&volume, &blocks.blocks)?;
+    check_entries(&volume, &blocks)?;
     let owed = owed_postings(alloc, &volume, meter)?;
     check_index(alloc, &volume, &blocks, &nodes, &owed)?;
     check_reach(alloc, &volume, &owed, meter)?;
@@ -70,22 +70,21 @@ fn check_index(
     alloc: Global,
     volume: &KeptVolume,
     blocks: &ListBlocks,
-    nodes: &[LevelNode],
+    nodes: &TreeNodes,
     owed: &OwedPostings,
 ) -> Result<(), Refusal>
     requires stated { IsStated volume.now }
     requires count { HasAllCells volume.now }
-    requires blocks { AreBlocksForTwo volume.now.geometry (image_in volume.now) blocks.now.blocks.items }
-    requires numbered { AreNumbered blocks.now.blocks.items blocks.now.numbers }
+    requires blocks { AreBlocksForTwo volume.now.geometry (image_in volume.now) blocks.now }
     requires nodes { AreNodes volume.now.geometry (image_in volume.now) nodes.now }
     requires owed { IsAllOwed volume.now owed.now }
     requires met { KeepsBelow volume.now 9 }
     ensures { Passes volume.now.geometry (image_in volume.now) 13 result }
 {
     check_postings(alloc, volume, blocks, owed)?;
-    check_pointers(alloc, volume, &blocks.blocks, nodes)?;
+    check_pointers(volume, blocks, nodes)?;
     check_buckets(volume, nodes)?;
-    check_children(alloc, volume, &blocks.blocks, nodes)
+    check_children(volume, blocks, nodes)
 }
 
 /// Rules 13 to 15: that the index leads to each document, and takes no cells besides.
@@ -141,7 +140,7 @@ fn check_strays(alloc: Global, volume: &KeptVolume) -> Result<(), Refusal>
 }
 
 /// Rule 8: what stands in blocks is in order.
-fn check_entries(volume: &KeptVolume, blocks: &[ListBlock]) -> Result<(), Refusal>
+fn check_entries(volume: &KeptVolume, blocks: &ListBlocks) -> Result<(), Refusal>
     requires blocks { AreBlocksForTwo volume.now.geometry (image_in volume.now) blocks.now }
     requires met { KeepsBelow volume.now 8 }
     ensures { Passes volume.now.geometry (image_in volume.now) 9 result }
@@ -157,8 +156,7 @@ fn check_postings(
     owed: &OwedPostings,
 ) -> Result<(), Refusal>
     requires stated { IsStated volume.now }
-    requires blocks { AreBlocksForTwo volume.now.geometry (image_in volume.now) blocks.now.blocks.items }
-    requires numbered { AreNumbered blocks.now.blocks.items blocks.now.numbers }
+    requires blocks { AreBlocksForTwo volume.now.geometry (image_in volume.now) blocks.now }
     requires owed { IsAllOwed volume.now owed.now }
     requires met { KeepsBelow volume.now 9 }
     ensures { Passes volume.now.geometry (image_in volume.now) 10 result }
@@ -168,21 +166,20 @@ fn check_postings(
 
 /// Rule 10: pointers lead where they should.
 fn check_pointers(
-    alloc: Global,
     volume: &KeptVolume,
-    blocks: &[ListBlock],
-    nodes: &[LevelNode],
+    blocks: &ListBlocks,
+    nodes: &TreeNodes,
 ) -> Result<(), Refusal>
     requires blocks { AreBlocksForTwo volume.now.geometry (image_in volume.now) blocks.now }
     requires nodes { AreNodes volume.now.geometry (image_in volume.now) nodes.now }
     requires met { KeepsBelow volume.now 10 }
     ensures { Passes volume.now.geometry (image_in volume.now) 11 result }
 {
-    refuse(first_broken_pointer(alloc, volume, blocks, nodes)?)
+    refuse(first_broken_pointer(volume, blocks, nodes))
 }
 
 /// Rule 11: buckets name the documents of their paths.
-fn check_buckets(volume: &KeptVolume, nodes: &[LevelNode]) -> Result<(), Refusal>
+fn check_buckets(volume: &KeptVolume, nodes: &TreeNodes) -> Result<(), Refusal>
     requires stated { IsStated volume.now }
     requires count { HasAllCells volume.now }
     requires nodes { AreNodes volume.now.geometry (image_in volume.now) nodes.now }
@@ -194,17 +191,16 @@ fn check_buckets(volume: &KeptVolume, nodes: &[LevelNode]) -> Result<(), Refusal
 
 /// Rule 12: child cells lead where they should.
 fn check_children(
-    alloc: Global,
     volume: &KeptVolume,
-    blocks: &[ListBlock],
-    nodes: &[LevelNode],
+    blocks: &ListBlocks,
+    nodes: &TreeNodes,
 ) -> Result<(), Refusal>
     requires blocks { AreBlocksForTwo volume.now.geometry (image_in volume.now) blocks.now }
     requires nodes { AreNodes volume.now.geometry (image_in volume.now) nodes.now }
     requires met { KeepsBelow volume.now 12 }
     ensures { Passes volume.now.geometry (image_in volume.now) 13 result }
 {
-    refuse(first_broken_child(alloc, volume, nodes, blocks)?)
+    refuse(first_broken_child(volume, blocks, nodes))
 }
 
 /// Rule 13: each posting of a document has a trail.

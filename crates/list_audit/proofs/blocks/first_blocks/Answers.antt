@@ -9,7 +9,7 @@ loop-list-preserved c = (
   c.add.ensures.mode ∙ c.loop-list.invariant.0,
   one_first c.loop-list.invariant.1 (omega (arith, c.loop-list-test.true, c.list_count-list-end.ensures)) c.list_at-block.ensures.at
       (adds_by c.loop-list.invariant.0 c.in_ok-add.ensures.adds),
-  c.in_ok-add.ensures.numbered,
+  c.in_ok-add.ensures.found,
 )
 
 pub returns-clause-closed : goal.returns-clause-closed

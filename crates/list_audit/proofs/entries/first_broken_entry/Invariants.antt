@@ -10,4 +10,4 @@ use Rattle.list_audit.proofs.entries.first_broken_entry.Given as goal
 
 abbrev pub invariant-loop-block : goal.invariant-loop-block
 invariant-loop-block l = FindsPart l.geometry (image_of_kept l.kept) Entries
-    (AskedBelow (BlockAt l.blocks (λ (_ block : ℕ). BlockAsks (image_of_kept l.kept) block)) l.block-index) l.least
+    (AskedBelow (BlockAt l.blocks.blocks.items (λ (_ block : ℕ). BlockAsks (image_of_kept l.kept) block)) l.block-index) l.least

@@ -43,7 +43,7 @@ returns-then-are_blank c =
     part_met c.args.geometry.now image Entries (PlacesAsk image block from c.args.to) (λ (place : ℕ). block + place)
     (λ (place : ℕ). from ≤ place → KeepsEntryRule image block place) c.args.to
     (λ cell asked place low less at. asked place less at low)
-    (fine_to block c.loop-place.invariant (c.are_blank.ensures c.if-are_blank.true) refl refl)
+    (fine_to block c.loop-place.invariant (c.are_blank.ensures.0 c.if-are_blank.true) refl refl)
 
 pub returns-then-not-keeps_entry_rule : goal.returns-then-not-keeps_entry_rule
 returns-then-not-keeps_entry_rule c =

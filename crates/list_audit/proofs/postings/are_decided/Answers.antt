@@ -1,22 +1,20 @@
--- One block more, and all of them.
-use Rattle.std.proofs.Common.{◌≡◌, List, length, get_or, Some, subst, ap, arith}
-use Rattle.std.specs.Prelude.{slice_get}
+-- Nothing is asked of the first; one block more; and all of them.
+use Rattle.std.proofs.Common.{◌-◌, arith}
 use Rattle.std.proofs.lemmas.Option.{slice_get-get_or}
 use Rattle.log_audit.specs.KeptVolumes.{image_in}
 use Rattle.list_audit.specs.declared.listed.ListBlock.{ListBlock}
 use Rattle.list_audit.proofs.Sharing.{are_decided, decided_more}
 use Rattle.list_audit.proofs.postings.are_decided.Goals as goal
 
-pub loop-listed-preserved : goal.loop-listed-preserved
-loop-listed-preserved c = let volume = c.args.volume.now in let rows = c.args.blocks.now.blocks.items in
-    let listed : List ListBlock = c.deref-listed-items.result.now in let i = c.loop-listed.listed-index in
+pub loop-place-init : goal.loop-place-init
+loop-place-init c = λ j _ _ less. absurd (omega (arith, less))
+
+pub loop-place-preserved : goal.loop-place-preserved
+loop-place-preserved c = let volume = c.args.volume.now in let blocks = c.args.blocks.now in let place = c.loop-place.place in
     let none : ListBlock = record { list = 0; block = 0 } in
-    decided_more volume.geometry (image_in volume) rows i (get_or listed i none) c.loop-listed.invariant
-    (subst (λ (blocks : List ListBlock). slice_get blocks i ≡ Some (get_or listed i none)) c.deref-listed-items.ensures.value
-    (slice_get-get_or listed i none (omega arith)))
-    (c.is_decided.ensures c.if-not-is_decided.false)
+    decided_more volume.geometry (image_in volume) blocks place _ _ c.loop-place.invariant (omega arith)
+    (slice_get-get_or blocks (place - 1) none (omega arith)) (slice_get-get_or blocks place none (omega arith)) (c.is_decided.ensures (cc))
 
 pub returns : goal.returns
-returns c = λ _. let volume = c.args.volume.now in
-    are_decided volume.geometry (image_in volume) c.args.blocks.now.blocks.items c.loop-listed.listed-index c.loop-listed.invariant
-    (omega (arith, c.loop-listed-test.false, ap (λ (blocks : List ListBlock). length blocks) c.deref-listed-items.ensures.value))
+returns c = λ _. are_decided c.args.volume.now.geometry (image_in c.args.volume.now) c.args.blocks.now c.requires.rising c.loop-place.place
+    c.loop-place.invariant (omega (arith, c.loop-place-test.false))

@@ -32,7 +32,7 @@ returns-then-are_blank c =
     let l = c.args.listed.now.list in let block = c.args.listed.now.block in
     part_met g image Postings (BlockOwes g image l block) (λ (place : ℕ). block + place) (KeepsPostingRule g image l block) 128
     (λ cell asked. asked)
-    (fine_to block c.loop-place.invariant (c.are_blank.ensures c.if-are_blank.true) refl (omega (arith, c.from.ensures)))
+    (fine_to block c.loop-place.invariant (c.are_blank.ensures.0 c.if-are_blank.true) refl (omega (arith, c.from.ensures)))
 
 pub loop-place-preserved : goal.loop-place-preserved
 loop-place-preserved c =

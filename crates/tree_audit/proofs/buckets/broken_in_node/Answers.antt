@@ -6,44 +6,44 @@ use Rattle.log_audit.proofs.Deciding.{decided_no, decided_yes}
 use Rattle.log_audit.proofs.Families.{fine_more, not_written}
 use Rattle.log_audit.proofs.Parts.{first_of_part, part_met}
 use Rattle.tree_audit.specs.Buckets.{AsksBucket}
-use Rattle.tree_audit.proofs.Closing.{node_inside}
+use Rattle.tree_audit.proofs.EachNode.{some_inside}
 use Rattle.tree_audit.proofs.Judging.{bucket_place}
 use Rattle.tree_audit.proofs.buckets.broken_in_node.Goals as goal
 
 pub overflow_add-cell : goal.overflow_add-cell
 overflow_add-cell c =
-    let inside = node_inside c.cells-cells.ensures.exists c.requires.node in
+    let inside = some_inside c.cells-cells.ensures.exists c.requires.node in
     omega (arith, inside, c.cells-cells.ensures.exists.cells, c.loop-x-test.true)
 
 pub is_true_bucket-requires-clause-inside : goal.is_true_bucket-requires-clause-inside
 is_true_bucket-requires-clause-inside c =
-    let inside = node_inside c.cells-cells.ensures.exists c.requires.node in
+    let inside = some_inside c.cells-cells.ensures.exists c.requires.node in
     omega (arith, inside, c.cells-cells.ensures.exists.cells, c.loop-x-test.true)
 
 pub loop-x-preserved-in_default : goal.loop-x-preserved-in_default
 loop-x-preserved-in_default c =
-    let g = c.args.volume.now.geometry in let image = image_in c.args.volume.now in let node = c.args.place.now.node in
+    let g = c.args.volume.now.geometry in let image = image_in c.args.volume.now in let node = c.args.node in
     fine_more {image = image} {at = λ (x : ℕ). node + x} {Fine = IsTrueBucket g image node} {n = c.loop-x.x} c.loop-x.invariant
     (λ written. absurd (not_written (sym c.at.ensures ∙ c.in_default.is) refl written))
 
 pub loop-x-preserved : goal.loop-x-preserved
 loop-x-preserved c =
-    let g = c.args.volume.now.geometry in let image = image_in c.args.volume.now in let node = c.args.place.now.node in
+    let g = c.args.volume.now.geometry in let image = image_in c.args.volume.now in let node = c.args.node in
     fine_more {image = image} {at = λ (x : ℕ). node + x} {Fine = IsTrueBucket g image node} {n = c.loop-x.x} c.loop-x.invariant
     (λ _. decided_yes _ c.is_true_bucket.ensures c.if-is_true_bucket.true)
 
 pub returns-in-loop-x : goal.returns-in-loop-x
 returns-in-loop-x c =
-    let g = c.args.volume.now.geometry in let image = image_in c.args.volume.now in let node = c.args.place.now.node in
+    let g = c.args.volume.now.geometry in let image = image_in c.args.volume.now in let node = c.args.node in
     let x = c.loop-x.x in
     first_of_part g image Buckets (AsksBucket g image node) (λ (k : ℕ). node + k) (IsTrueBucket g image node) x 16 _
     (λ cell h. h) (λ asks. asks x c.loop-x-test.true refl) (λ a b h. omega (arith, h)) c.loop-x.invariant
     (decided_no _ c.is_true_bucket.ensures c.if-is_true_bucket.false) (omega arith)
-    (bucket_place x (node + x) c.cells-cells.ensures.exists c.requires.node c.loop-x-test.true refl)
+    (bucket_place x (node + x) c.cells-cells.ensures.exists c.requires.node.1 c.loop-x-test.true refl)
     (sym c.at.ensures ∙ c.in-Some.is) refl
 
 pub returns : goal.returns
 returns c =
-    let g = c.args.volume.now.geometry in let image = image_in c.args.volume.now in let node = c.args.place.now.node in
+    let g = c.args.volume.now.geometry in let image = image_in c.args.volume.now in let node = c.args.node in
     part_met g image Buckets (AsksBucket g image node) (λ (k : ℕ). node + k) (IsTrueBucket g image node) 16 (λ cell h. h)
     (λ k less. c.loop-x.invariant k (omega (arith, less, c.loop-x-test.false)))

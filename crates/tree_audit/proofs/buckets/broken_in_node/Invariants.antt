@@ -6,5 +6,5 @@ use Rattle.log_audit.proofs.Families.{AreFine}
 use Rattle.tree_audit.proofs.buckets.broken_in_node.Given as goal
 
 abbrev pub invariant-loop-x : goal.invariant-loop-x
-invariant-loop-x l = AreFine (image_in l.volume) (λ (x : ℕ). l.place.node + x)
-    (IsTrueBucket l.volume.geometry (image_in l.volume) l.place.node) l.x
+invariant-loop-x l = AreFine (image_in l.volume) (λ (x : ℕ). l.node + x)
+    (IsTrueBucket l.volume.geometry (image_in l.volume) l.node) l.x

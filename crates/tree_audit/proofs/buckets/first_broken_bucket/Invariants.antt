@@ -1,5 +1,4 @@
 -- The least finding of the nodes before this turn's.
-use Rattle.std.specs.Prelude.{ℕ}
 use Rattle.log_audit.specs.KeptVolumes.{image_in}
 use Rattle.tamper_rules.specs.Rules.{Buckets}
 use Rattle.log_audit.specs.Least.{FindsPart}
@@ -8,6 +7,6 @@ use Rattle.tree_audit.specs.Buckets.{AsksBucket}
 use Rattle.tree_audit.proofs.EachNode.{NodeAt}
 use Rattle.tree_audit.proofs.buckets.first_broken_bucket.Given as goal
 
-abbrev pub invariant-loop-place : goal.invariant-loop-place
-invariant-loop-place l = FindsPart l.volume.geometry (image_in l.volume) Buckets
-    (AskedBelow (NodeAt l.nodes (λ (level : ℕ). AsksBucket l.volume.geometry (image_in l.volume))) l.place-index) l.least
+abbrev pub invariant-loop-number : goal.invariant-loop-number
+invariant-loop-number l = FindsPart l.volume.geometry (image_in l.volume) Buckets
+    (AskedBelow (NodeAt l.nodes.nodes.items (AsksBucket l.volume.geometry (image_in l.volume))) l.number-index) l.least

@@ -3,7 +3,7 @@ use Rattle.std.proofs.Common.{◌≡◌, ◌+◌, ℕ, sym, ◌∙◌, subst, ar
 use Rattle.volume_meaning.specs.HashPaths.{nibble}
 use Rattle.log_audit.specs.Kept.{image_of_kept}
 use Rattle.log_audit.proofs.Deciding.{no}
-use Rattle.tree_audit.specs.Nodes.{HasChildInPool}
+use Rattle.tree_audit.specs.ChildCells.{HasChildInPool}
 use Rattle.tree_audit.proofs.Pathing.{begins, one_step, ends_here}
 use Rattle.tree_audit.proofs.paths.goes_by.Goals.{else-at-node-via-then-at-node+else-nibble-x, else-at-node-via-else-at-node}
 use Rattle.tree_audit.proofs.paths.goes_by.Goals as goal

@@ -9,4 +9,4 @@ use Rattle.tree_audit.proofs.pointers.first_broken_pointer.Given as goal
 
 abbrev pub invariant-loop-block : goal.invariant-loop-block
 invariant-loop-block l = FindsPart l.volume.geometry (image_in l.volume) Pointers
-    (AskedBelow (BlockAt l.blocks (PointerAsks l.volume.geometry (image_in l.volume))) l.block-index) l.least
+    (AskedBelow (BlockAt l.blocks.blocks.items (PointerAsks l.volume.geometry (image_in l.volume))) l.block-index) l.least

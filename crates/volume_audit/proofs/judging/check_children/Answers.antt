@@ -13,5 +13,5 @@ first_broken_child-requires-clause-journals c = c.requires.met Journals (omega a
 
 pub returns : goal.returns
 returns c = let volume = c.args.volume.now in
-    passes volume.geometry (image_in volume) Children c.in_ok-first_broken_child.field-0 c.refuse.result c.requires.met
-    c.in_ok-first_broken_child.ensures c.refuse.ensures
+    passes volume.geometry (image_in volume) Children c.first_broken_child.result c.refuse.result c.requires.met
+    c.first_broken_child.ensures c.refuse.ensures

@@ -6,6 +6,6 @@ use Rattle.volume_audit.proofs.judging.check_pointers.Goals as goal
 
 pub returns : goal.returns
 returns c = let volume = c.args.volume.now in
-    passes volume.geometry (image_in volume) Pointers c.in_ok-first_broken_pointer.field-0 c.refuse.result
+    passes volume.geometry (image_in volume) Pointers c.first_broken_pointer.result c.refuse.result
     c.requires.met
-    c.in_ok-first_broken_pointer.ensures c.refuse.ensures
+    c.first_broken_pointer.ensures c.refuse.ensures
