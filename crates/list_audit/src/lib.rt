@@ -13,9 +13,10 @@
 //! blocks may meet. So each block of a list is taken once, whatever leads to it, and a block to which two lists lead is
 //! one of each. A third list's is passed over (`blocks_for_two`), so that there are two blocks a cell at most, however
 //! many lists somebody has led there. Two are enough for each rule but in one case of rule 9, for which all are listed
-//! (`blocks_of`). That costs 24 bytes a block while they are found, 16 from then on, and no bytes for a cell of none.
-//! Blocks of a list that meet have pointer places in common, up to 119 of them, and each is followed once for the list,
-//! by `followed.rt`.
+//! (`blocks_of`). They come by rising numbers, so that what meets a block is found by bisection. That costs 24 bytes a
+//! block while they are found, 32 while they are put in order, 16 from then on, and no bytes for a cell of none. Blocks
+//! of a list that meet have pointer places in common, up to 119 of them, and each is followed once for the list, by
+//! `followed.rt`.
 //!
 //! **Rule 8** asks of the cells of a block that postings stand at its first places, without a gap and by rising keys, and
 //! nothing behind its pointers:
@@ -24,13 +25,15 @@
 //!     164 to 283    pointer places    of another rule
 //!     284 to 291    no places         blank
 //!
-//! Blocks come in no order, so what is found at one is joined with what was found before by `log_audit::lower_of`.
+//! Blocks may meet, so what is found at one is joined with what was found before by `log_audit::lower_of`.
 //!
 //! **Rule 9** asks that each posting is one of a document's, and **rule 13** that each posting which a document asks for is
 //! led to. `rules.rt` tells of both, with an example.
 //!
-//! Stands on `log_audit` (kept cells and the log), `term_tags` (postings of words) and `jump_block` (spans). Begin with
-//! `blocks.rt`, then `rules.rt`; `specs/Blocks.antt` says what the blocks of all lists are.
+//! Stands on `log_audit` (kept cells and the log), `term_tags` (postings of words) and `jump_block` (spans). Two layers are
+//! in it. The blocks of lists are found by `blocks.rt`, with `listed.rt`, `found.rt`, `followed.rt`, `between.rt` and
+//! `targets.rt`; `specs/Blocks.antt` says what they are. The others judge them: `entries.rt` rule 8, `postings.rt` rule 9,
+//! and `rules.rt` rule 13. Begin with `blocks.rt`, then `rules.rt`.
 #![tactic(auto)]
 
 mod between;
