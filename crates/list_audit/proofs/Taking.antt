@@ -155,19 +155,23 @@ module _ {found : FoundBlocks} (are : AreFound found) (block : ListBlock) where
     only = λ i b there. inl there;
   }
 
+  -- the one that was put is among them
+  among_last : {new : List ListBlock} → new ≡ found.blocks.items ++ block ∷ [] → IsAmongBlocks new block.list block.block
+  among_last {new} is = record {
+    place = length found.blocks.items;
+    one = block;
+    there = subst (λ (xs : List ListBlock). slice_get xs (length found.blocks.items) ≡ Some block) (sym is)
+        (get_last found.blocks.items block (length found.blocks.items) refl);
+    list = refl;
+    is = refl;
+  }
+
   -- a new one is taken
   pub adds_behind : {new : List ListBlock} → new ≡ found.blocks.items ++ block ∷ [] → AddsBlock found.for_two block.list block.block found.blocks.items new
   adds_behind {new} is = record {
     keeps = λ i b there. subst (λ (xs : List ListBlock). slice_get xs i ≡ Some b) (sym is)
         (get_before found.blocks.items block i (slice_get_within found.blocks.items i b there) ∙ there);
-    has = inl (record {
-      place = length found.blocks.items;
-      one = block;
-      there = subst (λ (xs : List ListBlock). slice_get xs (length found.blocks.items) ≡ Some block) (sym is)
-          (get_last found.blocks.items block (length found.blocks.items) refl);
-      list = refl;
-      is = refl;
-    });
+    has = inl (among_last is);
     only = λ i b there. ⊎_elim
         (λ (h : slice_get found.blocks.items i ≡ Some b). inl h)
         (λ h. inr (ap (λ (d : ListBlock). d.list) (sym h.1), ap (λ (d : ListBlock). d.block) (sym h.1)))
@@ -202,11 +206,4 @@ module _ {found : FoundBlocks} (are : AreFound found) (block : ListBlock) where
       adds = adds_behind is
 
       last : IsAmongBlocks after.blocks.items block.list block.block
-      last = record {
-        place = length found.blocks.items;
-        one = block;
-        there = subst (λ (xs : List ListBlock). slice_get xs (length found.blocks.items) ≡ Some block) (sym is)
-            (get_last found.blocks.items block (length found.blocks.items) refl);
-        list = refl;
-        is = refl;
-      }
+      last = among_last is

@@ -58,8 +58,8 @@ fn first_in_places(
     to: u32,
 ) -> Option<Evidence>
     requires block { IsBlockOf geometry.now (image_of_kept kept.now) listed.now.list listed.now.block }
-    requires places { to ≤ 128 ⊎ 248 ≤ from }
-    requires most { to ≤ 256 }
+    requires places { to ≤ FIRST_POINTER ⊎ BEHIND_POINTERS ≤ from }
+    requires most { to ≤ BLOCK_CELLS }
     ensures { FindsPart geometry.now (image_of_kept kept.now) Entries
         (PlacesAsk (image_of_kept kept.now) listed.now.block from to) result }
 {
@@ -87,8 +87,8 @@ fn first_in_places(
 
 /// Whether a place of a block before its pointers or behind them, where it is written, keeps rule 8.
 fn keeps_entry_rule(kept: &KeptCells, block: u32, place: u32) -> bool
-    requires room { block + 256 ≤ 2 ^ 31 }
-    requires place { place < 128 ⊎ 248 ≤ place }
+    requires room { block + BLOCK_CELLS ≤ 2 ^ 31 }
+    requires place { place < FIRST_POINTER ⊎ BEHIND_POINTERS ≤ place }
     ensures { IsTrue result ↔ KeepsEntryRule (image_of_kept kept.now) block place }
 {
     if place >= BEHIND_POINTERS {
@@ -99,8 +99,8 @@ fn keeps_entry_rule(kept: &KeptCells, block: u32, place: u32) -> bool
 
 /// Whether a posting stands at an entry place, which is the first or behind one with a smaller key.
 fn is_in_order(kept: &KeptCells, block: u32, place: u32) -> bool
-    requires room { block + 256 ≤ 2 ^ 31 }
-    requires place { place < 128 }
+    requires room { block + BLOCK_CELLS ≤ 2 ^ 31 }
+    requires place { place < FIRST_POINTER }
     ensures { IsTrue result ↔ HoldsInOrder (image_of_kept kept.now) block place }
 {
     let Some(posting) = posting_at(kept, block + place) else {

@@ -1,6 +1,7 @@
 //! Blocks whose pointers were followed.
 ghost use Rattle.std.specs.Prelude.{◌<◌, ◌≤◌, ◌+◌, ◌^◌, ℕ, OnOk};
 ghost use Rattle.list_audit.specs.Following.{AddsFollowed, HasNoneFollowed, IsFollowedAt};
+ghost use Rattle.volume_meaning.specs.declared.blocks.TheConstants.{BLOCK_CELLS};
 
 use crate::between::{first_between, last_between};
 use crate::blocks::{BEHIND_POINTERS, FIRST_POINTER};
@@ -52,7 +53,7 @@ impl FollowedBlocks {
 
     /// The place behind the last pointer place of a block that is none of the next one of the same list.
     pub(crate) fn behind_pointers_of(&self, listed: &ListBlock) -> u32
-        requires { listed.now.block + 256 ≤ 2 ^ 32 }
+        requires { listed.now.block + BLOCK_CELLS ≤ 2 ^ 32 }
         ensures most { result ≤ BEHIND_POINTERS }
         ensures passed { (pointer : ℕ) → result ≤ pointer → pointer < BEHIND_POINTERS
             → IsFollowedAt self.now.numbers listed.now.list (listed.now.block + pointer) }

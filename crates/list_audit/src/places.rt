@@ -2,6 +2,7 @@
 ghost use Rattle.std.specs.Prelude.{◌<◌, ◌≤◌, ◌+◌, ◌^◌};
 ghost use Rattle.log_audit.specs.Kept.{image_of_kept};
 ghost use Rattle.list_audit.specs.Trails.{IsAllFront, IsPlaceOfKey};
+ghost use Rattle.volume_meaning.specs.declared.blocks.TheConstants.{BLOCK_CELLS};
 
 use crate::held_posting::posting_at;
 use log_audit::KeptCells;
@@ -13,7 +14,7 @@ pub(crate) const LAST_ENTRY: u32 = 127;
 /// The first entry place of a block without a lower key, or the number of its entry places. The guess is looked at first;
 /// then bisection finds it, since the entries of a block stand without a gap and by rising keys.
 pub(crate) fn place_of(kept: &KeptCells, block: u32, key: u32, guess: u32) -> u32
-    requires room { block + 256 ≤ 2 ^ 31 }
+    requires room { block + BLOCK_CELLS ≤ 2 ^ 31 }
     requires front { IsAllFront (image_of_kept kept.now) block }
     ensures { IsPlaceOfKey (image_of_kept kept.now) block key result }
 {

@@ -5,6 +5,7 @@ ghost use Rattle.volume_meaning.specs.Nodes.{IsBlockOf};
 ghost use Rattle.log_audit.specs.Kept.{image_of_kept};
 ghost use Rattle.log_audit.specs.Findings.{IsMetAll};
 ghost use Rattle.list_audit.specs.Trails.{IsPlaceOfKey, PlaceAnswers, StepAnswers};
+ghost use Rattle.volume_meaning.specs.declared.blocks.TheConstants.{BLOCK_CELLS, ENTRY_PLACES};
 
 use crate::held_posting::posting_at;
 use crate::listed::ListBlock;
@@ -56,8 +57,8 @@ fn step_on(
     posting: &PostingFields,
 ) -> Step
     requires block { IsBlockOf geometry.now (image_of_kept kept.now) listed.now.list listed.now.block }
-    requires room { listed.now.block + 256 ≤ 2 ^ 31 }
-    requires full { IsPlaceOfKey (image_of_kept kept.now) listed.now.block posting.now.key 128 }
+    requires room { listed.now.block + BLOCK_CELLS ≤ 2 ^ 31 }
+    requires full { IsPlaceOfKey (image_of_kept kept.now) listed.now.block posting.now.key ENTRY_PLACES }
     requires pointers { IsMetAll geometry.now (image_of_kept kept.now) Pointers }
     ensures { StepAnswers geometry.now (image_of_kept kept.now) listed.now.list posting.now listed.now.block result }
 {
@@ -75,8 +76,8 @@ fn step_on(
 
 /// Whether the posting stands at the place of its key.
 fn step_at(kept: &KeptCells, block: u32, place: u32, posting: &PostingFields) -> Step
-    requires room { block + 256 ≤ 2 ^ 31 }
-    requires inside { place < 128 }
+    requires room { block + BLOCK_CELLS ≤ 2 ^ 31 }
+    requires inside { place < ENTRY_PLACES }
     ensures { PlaceAnswers (image_of_kept kept.now) block place posting.now result }
 {
     let Some(held) = posting_at(kept, block + place) else {

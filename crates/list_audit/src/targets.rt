@@ -9,7 +9,7 @@ use volume_meaning::BLOCK_CELLS;
 
 /// The block to which the jump cell there leads, if there is one whose cells lie in the pool.
 pub fn pointer_target(kept: &KeptCells, geometry: &Geometry, at: u32) -> Option<u32>
-    ensures { LeadEnds geometry.now (image_of_kept kept.now) (λ t. Jump t) 256 at result }
+    ensures { LeadEnds geometry.now (image_of_kept kept.now) (λ t. Jump t) BLOCK_CELLS at result }
 {
     let Some(held) = record_at(kept, at) else {
         return None;

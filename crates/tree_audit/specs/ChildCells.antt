@@ -3,12 +3,13 @@ use Rattle.std.specs.Prelude.{◌≡◌, ◌<◌, ◌≤◌, ◌+◌, ◌*◌, �
 use Rattle.cell_types.specs.Image.{Image}
 use Rattle.cell_types.specs.Layout.{Layout}
 use Rattle.cell_types.specs.declared.record_cell.RecordCell.TheVariants.{Child}
+use Rattle.volume_meaning.specs.declared.nodes.TheConstants.{NODE_BUCKETS, NODE_CELLS}
 use Rattle.log_audit.specs.Leads.{LeadsInto}
 use Rattle.tree_audit.specs.declared.child_cells.TheConstants.{TARGET_STEP}
 
 -- the child cell there leads to a node whose cells lie in the pool
 abbrev pub HasChildInPool : Layout → Image → ℕ → ℕ → Type 0
-HasChildInPool g image at target = LeadsInto g image (λ (t : ℕ). Child t) 32 at target
+HasChildInPool g image at target = LeadsInto g image (λ (t : ℕ). Child t) NODE_CELLS at target
 
 -- the number of a child cell that leads to this target
 abbrev pub lead_number : ℕ → ℕ → ℕ
@@ -17,7 +18,7 @@ lead_number target cell = target * TARGET_STEP + cell
 -- the number is that of a child cell of this node, one of those before this place
 pub record IsLeadOf (g : Layout) (image : Image) (node below x : ℕ) : Type 0 where
   pub place : ℕ
-  pub from : 16 ≤ place
+  pub from : NODE_BUCKETS ≤ place
   pub to : place < below
   pub target : ℕ
   pub leads : HasChildInPool g image (node + place) target
@@ -29,4 +30,4 @@ pub record IsLeadAmong (g : Layout) (image : Image) (nodes : List ℕ) (n x : �
   pub first : index < n
   pub node : ℕ
   pub there : slice_get nodes index ≡ Some node
-  pub lead : IsLeadOf g image node 32 x
+  pub lead : IsLeadOf g image node NODE_CELLS x

@@ -3,6 +3,7 @@ use Rattle.std.specs.Prelude.{◌≡◌, ◌<◌, ◌≤◌, ◌+◌, ◌⊎◌,
 use Rattle.cell_types.specs.Image.{Image}
 use Rattle.cell_types.specs.Layout.{Layout}
 use Rattle.cell_types.specs.declared.record_cell.RecordCell.TheVariants.{Child}
+use Rattle.volume_meaning.specs.declared.nodes.TheConstants.{NODE_BUCKETS}
 use Rattle.volume_meaning.specs.Nodes.{AreApart, IsBlockOf, IsNode}
 use Rattle.volume_meaning.specs.Documents.{document_at}
 use Rattle.volume_meaning.specs.Slots.{IsEdge, Stores}
@@ -17,7 +18,7 @@ LeadsDownEach g image node x = (v : ℕ) → IsNode g image v node → LeadsDown
 
 -- what rule 12 asks of a cell on account of this node
 abbrev pub AsksChildren : Layout → Image → ℕ → ℕ → Type 0
-AsksChildren g image node cell = (x : ℕ) → x < 16 → cell ≡ node + 16 + x → LeadsDownEach g image node x
+AsksChildren g image node cell = (x : ℕ) → x < NODE_BUCKETS → cell ≡ node + NODE_BUCKETS + x → LeadsDownEach g image node x
 
 -- the slot's journal holds the same as this cell
 pub record HasCopyOf (image : Image) (s : StoredSlot) (cell : ℕ) : Type 0 where

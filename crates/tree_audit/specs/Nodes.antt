@@ -6,6 +6,7 @@ use Rattle.std.specs.List.Sorted.{IsStrictlyIncreasing}
 use Rattle.cell_types.specs.Image.{Image}
 use Rattle.cell_types.specs.Layout.{Layout}
 use Rattle.volume_meaning.specs.Nodes.{IsNode}
+use Rattle.volume_meaning.specs.declared.nodes.TheConstants.{NODE_BUCKETS, NODE_CELLS}
 use Rattle.tree_audit.specs.ChildCells.{HasChildInPool, IsLeadOf}
 use Rattle.tree_audit.specs.Numbers.{AreAll}
 use Rattle.tree_audit.specs.declared.nodes.TheConstants.{LAST_LEVEL}
@@ -14,8 +15,8 @@ use Rattle.tree_audit.specs.declared.nodes.TreeNodes.{TreeNodes}
 -- the cell is at the place of a child cell of the node
 pub record IsChildPlace (node at : ℕ) : Type 0 where
   pub place : ℕ
-  pub from : 16 ≤ place
-  pub to : place < 32
+  pub from : NODE_BUCKETS ≤ place
+  pub to : place < NODE_CELLS
   pub is : at ≡ node + place
 
 -- the cell is at the place of a child cell of the last node, if there is one
@@ -27,7 +28,7 @@ pub record IsLastPlace (last : Option ℕ) (at : ℕ) : Type 0 where
 -- a child cell of the node leads there, one of those before this place
 pub record IsTarget (g : Layout) (image : Image) (node below target : ℕ) : Type 0 where
   pub place : ℕ
-  pub from : 16 ≤ place
+  pub from : NODE_BUCKETS ≤ place
   pub to : place < below
   pub leads : HasChildInPool g image (node + place) target
 
@@ -40,7 +41,7 @@ pub record IsUnder (g : Layout) (image : Image) (row : List ℕ) (n target : ℕ
   pub index : ℕ
   pub first : index < n
   pub inside : index < length row
-  pub target_of : IsTarget g image (slice_index row index) 32 target
+  pub target_of : IsTarget g image (slice_index row index) NODE_CELLS target
 
 -- these are the targets of the child cells of a row of nodes, each once, by rising numbers
 pub record AreUnder (g : Layout) (image : Image) (row under : List ℕ) : Type 0 where
@@ -49,7 +50,7 @@ pub record AreUnder (g : Layout) (image : Image) (row under : List ℕ) : Type 0
 
 -- these nodes lie on the device
 abbrev pub AreNodesInside : Layout → List ℕ → Type 0
-AreNodesInside g row = (index : ℕ) → index < length row → slice_index row index + 32 ≤ g.cells
+AreNodesInside g row = (index : ℕ) → index < length row → slice_index row index + NODE_CELLS ≤ g.cells
 
 -- these are the nodes of a level, each once, by rising numbers
 pub record AreOnLevel (g : Layout) (image : Image) (level : ℕ) (row : List ℕ) : Type 0 where
@@ -71,4 +72,4 @@ pub record AddsRow (row : List ℕ) (old new : BTreeSet ℕ) (fresh : List ℕ) 
 pub record AreNodes (g : Layout) (image : Image) (tree : TreeNodes) : Type 0 where
   pub nodes : AreAll (IsSomeNode g image) tree.nodes.items
   pub last : AreAll (IsNode g image LAST_LEVEL) tree.last.items
-  pub leads : AreAll (λ x. (node : ℕ) × IsSomeNode g image node × IsLeadOf g image node 32 x) tree.leads.items
+  pub leads : AreAll (λ x. (node : ℕ) × IsSomeNode g image node × IsLeadOf g image node NODE_CELLS x) tree.leads.items

@@ -42,8 +42,8 @@ fn push_leads(
     node: u32,
     leads: &mut Vec<u64>,
 ) -> Result<(), NoMemory>
-    requires { node + 32 < 2 ^ 32 }
-    ensures { OnOk result (AddsNumbers (IsLeadOf geometry.now (image_of_kept kept.now) node 32)
+    requires { node + NODE_CELLS < 2 ^ 32 }
+    ensures { OnOk result (AddsNumbers (IsLeadOf geometry.now (image_of_kept kept.now) node NODE_CELLS)
         leads.old.items leads.new.items) }
 {
     for place in NODE_BUCKETS..NODE_CELLS {

@@ -95,7 +95,7 @@ fn leads_down_well(
     requires blocks { AreBlocksForTwo volume.now.geometry (image_in volume.now) blocks.now }
     requires nodes { AreNodes volume.now.geometry (image_in volume.now) nodes.now }
     requires node { IsSomeNode volume.now.geometry (image_in volume.now) node }
-    requires inside { node + 16 + x < 2 ^ 31 }
+    requires inside { node + NODE_BUCKETS + x < 2 ^ 31 }
     ensures { IsTrue result ↔ LeadsDownEach volume.now.geometry (image_in volume.now) node x }
 {
     let cell = node + NODE_BUCKETS + x;

@@ -31,7 +31,7 @@ pub(crate) fn leads_well(
     requires blocks { AreBlocksForTwo volume.now.geometry (image_in volume.now) blocks.now }
     requires nodes { AreNodes volume.now.geometry (image_in volume.now) nodes.now }
     requires block { IsBlockOf volume.now.geometry (image_in volume.now) listed.now.list listed.now.block }
-    requires room { listed.now.block + 256 ≤ 2 ^ 31 }
+    requires room { listed.now.block + BLOCK_CELLS ≤ 2 ^ 31 }
     requires level { level < 8 }
     requires some { 1 ≤ digit }
     requires digit { digit ≤ 15 }
@@ -88,7 +88,7 @@ fn is_inside(geometry: &Geometry, log: &Log, target: u32) -> bool
 /// Whether they lie in the block part of one slot.
 fn is_owned(volume: &KeptVolume, target: u32) -> bool
     requires met { KeepsBelow volume.now 10 }
-    requires room { target + 256 ≤ 2 ^ 31 }
+    requires room { target + BLOCK_CELLS ≤ 2 ^ 31 }
     ensures { IsTrue result ↔ IsOwned volume.now.geometry (image_in volume.now) target }
 {
     let Some(first) = volume.owner_of(target) else {

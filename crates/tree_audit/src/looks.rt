@@ -20,7 +20,7 @@ pub(crate) fn bucket_at(kept: &KeptCells, at: u32) -> Option<HeldBucket>
 
 /// The node to which the child cell there leads, if there is one whose cells lie in the pool.
 pub(crate) fn child_at(kept: &KeptCells, geometry: &Geometry, at: u32) -> Option<u32>
-    ensures { LeadEnds geometry.now (image_of_kept kept.now) (λ t. Child t) 32 at result }
+    ensures { LeadEnds geometry.now (image_of_kept kept.now) (λ t. Child t) NODE_CELLS at result }
 {
     let Some(held) = record_at(kept, at) else {
         return None;

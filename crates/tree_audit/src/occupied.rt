@@ -20,7 +20,7 @@ pub(crate) fn is_alone(
     target: u32,
 ) -> bool
     requires blocks { AreBlocksForTwo _geometry.now (image_of_kept _kept.now) blocks.now }
-    requires room { 256 ≤ target }
+    requires room { BLOCK_CELLS ≤ target }
     ensures { IsTrue result ↔ IsAlone _geometry.now (image_of_kept _kept.now) list target }
 {
     let own = u64::from(target) * BLOCK_STEP + u64::from(list);
@@ -40,7 +40,7 @@ pub(crate) fn is_off_nodes(
     target: u32,
 ) -> bool
     requires nodes { AreNodes _geometry.now (image_of_kept _kept.now) nodes.now }
-    requires room { 256 ≤ target }
+    requires room { BLOCK_CELLS ≤ target }
     ensures { IsTrue result ↔ IsOffNodes _geometry.now (image_of_kept _kept.now) target }
 {
     let first = u64::from(target - (NODE_CELLS - 1));

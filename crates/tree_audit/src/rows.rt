@@ -51,7 +51,7 @@ pub(crate) fn row_under(
 fn first_place_behind(node: u32, last: Option<u32>) -> u32
     ensures from { NODE_BUCKETS ≤ result }
     ensures to { result ≤ NODE_CELLS }
-    ensures passed { (place : ℕ) → 16 ≤ place → place < result → IsLastPlace last (node + place) }
+    ensures passed { (place : ℕ) → NODE_BUCKETS ≤ place → place < result → IsLastPlace last (node + place) }
 {
     let Some(before) = last else {
         return NODE_BUCKETS;
@@ -74,12 +74,12 @@ fn push_targets(
     first: u32,
     targets: &mut Vec<u64>,
 ) -> Result<(), NoMemory>
-    requires inside { node + 32 < 2 ^ 32 }
+    requires inside { node + NODE_CELLS < 2 ^ 32 }
     requires from { NODE_BUCKETS ≤ first }
     requires to { first ≤ NODE_CELLS }
     requires added { (target : ℕ) → IsTarget geometry.now (image_of_kept kept.now) node first target
         → Contains targets.old.items target }
-    ensures { OnOk result (AddsChildTargets geometry.now (image_of_kept kept.now) node 32
+    ensures { OnOk result (AddsChildTargets geometry.now (image_of_kept kept.now) node NODE_CELLS
         targets.old.items targets.new.items) }
 {
     for place in first..NODE_CELLS {

@@ -5,6 +5,7 @@ ghost use Rattle.volume_meaning.specs.Nodes.{IsBlockOf};
 ghost use Rattle.log_audit.specs.Kept.{image_of_kept};
 ghost use Rattle.log_audit.specs.Findings.{IsMetAll};
 ghost use Rattle.tree_audit.specs.Leading.{HasKeyBetween, IsInSpan};
+ghost use Rattle.volume_meaning.specs.declared.blocks.TheConstants.{BLOCK_CELLS};
 
 use cell_types::Geometry;
 use list_audit::{ListBlock, posting_at};
@@ -23,8 +24,8 @@ pub(crate) fn is_in_span(
     requires entries { IsMetAll _geometry.now (image_of_kept kept.now) Entries }
     requires block { IsBlockOf _geometry.now (image_of_kept kept.now) listed.now.list listed.now.block }
     requires target { IsBlockOf _geometry.now (image_of_kept kept.now) listed.now.list target }
-    requires room { listed.now.block + 256 ≤ 2 ^ 31 }
-    requires space { target + 256 ≤ 2 ^ 31 }
+    requires room { listed.now.block + BLOCK_CELLS ≤ 2 ^ 31 }
+    requires space { target + BLOCK_CELLS ≤ 2 ^ 31 }
     requires level { level < 8 }
     requires some { 1 ≤ digit }
     requires digit { digit ≤ 15 }
@@ -58,7 +59,7 @@ fn span_width(level: u32) -> u64
 
 /// Whether a posting with a key from `low` on and below `high` stands in an entry place of a block.
 fn has_key_between(kept: &KeptCells, block: u32, low: u64, high: u64) -> bool
-    requires { block + 256 ≤ 2 ^ 31 }
+    requires { block + BLOCK_CELLS ≤ 2 ^ 31 }
     ensures { IsTrue result ↔ HasKeyBetween (image_of_kept kept.now) block low high }
 {
     for place in 0..u32::from(ENTRY_PLACES) {
