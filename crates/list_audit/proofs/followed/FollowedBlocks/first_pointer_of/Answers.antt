@@ -8,7 +8,7 @@ use Rattle.list_audit.proofs.followed.FollowedBlocks.first_pointer_of.Goals as g
 pub returns-clause-passed : goal.returns-clause-passed
 returns-clause-passed c = λ p low high.
     let l = c.args.listed.now.list in let block = c.args.listed.now.block in
-    let before = c.in-Some.before in let found = c.in-Some.ensures.some in
+    let before = c.in-Some.before in let found = c.in-Some.ensures in
     let is = c.number-number.ensures in
     let step = c.number-number.result - before in
     let inside : step ≤ block = omega (arith, found.0, found.1, c.min.ensures, c.from-reach.ensures, is) in
