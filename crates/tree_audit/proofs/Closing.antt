@@ -201,13 +201,6 @@ pub deepest : {g : Layout} {image : Image} {level node : ℕ} → IsNode g image
 deepest (root level node first is) = omega (arith, first)
 deepest (under level node v above x next rest low levels child from to) = omega (arith, next, levels)
 
--- where a level has the nodes of the one above, so has each from there on
-pub stays : {g : Layout} {image : Image} {row : List ℕ} (more level : ℕ) → level + more ≡ 63 → AreOnLevel g image level row → AreUnder g image row row
-    → AreOnLevel g image 63 row
-stays {g} {image} {row} zero level is here are = subst (λ (v : ℕ). AreOnLevel g image v row) (omega (arith, is)) here
-stays {g} {image} {row} (suc more) level is here are =
-    stays more (level + 1) (omega (arith, is)) (next_level (omega (arith, is)) here are) are
-
 -- the nodes of a level are just these
 pub level_all : {g : Layout} {image : Image} {level : ℕ} {row : List ℕ} → AreOnLevel g image level row → AreAll (IsNode g image level) row
 level_all {g} {image} {level} {row} here = record {
@@ -217,6 +210,45 @@ level_all {g} {image} {level} {row} here = record {
     λ node. here.all x node,
   );
 }
+
+-- two levels have the same nodes
+abbrev pub AreAlike : Layout → Image → ℕ → ℕ → Type 0
+AreAlike g image a b = (x : ℕ) → IsNode g image a x ↔ IsNode g image b x
+
+-- so have those below them
+node_below : {g : Layout} {image : Image} (a b : ℕ) → b < 63 → ((n : ℕ) → IsNode g image a n → IsNode g image b n) → (x : ℕ)
+    → IsNode g image (a + 1) x → IsNode g image (b + 1) x
+node_below a b less each x (root _ _ zero_level is) = absurd (omega (arith, zero_level))
+node_below {g} {image} a b less each x (under _ _ v above y next rest low levels child from to) =
+    under (b + 1) x b above y refl (each above (subst (λ (w : ℕ). IsNode g image w above) (omega (arith, next)) rest)) low less child from to
+
+alike_below : {g : Layout} {image : Image} (j a b : ℕ) → a + j ≤ 63 → b + j ≤ 63 → AreAlike g image a b → AreAlike g image (a + j) (b + j)
+alike_below {g} {image} zero a b first second alike = subst (λ (w : ℕ). AreAlike g image w (b + 0)) (omega arith)
+    (subst (AreAlike g image a) (omega arith) alike)
+alike_below {g} {image} (suc j) a b first second alike =
+    let so_far = alike_below {g = g} {image = image} j a b (omega (arith, first)) (omega (arith, second)) alike in
+    let below : AreAlike g image (a + j + 1) (b + j + 1) = λ x. (
+      node_below (a + j) (b + j) (omega (arith, second)) (λ n h. (so_far n).0 h) x,
+      node_below (b + j) (a + j) (omega (arith, first)) (λ n h. (so_far n).1 h) x,
+    ) in
+    subst (λ (w : ℕ). AreAlike g image w (b + suc j)) (omega arith) (subst (AreAlike g image (a + j + 1)) (omega arith) below)
+
+-- where two levels have the nodes of a row, and a third has them, so has the one as far below that
+pub again_below : {g : Layout} {image : Image} {row : List ℕ} (a b c d : ℕ) → a < b → d + a ≡ c + b → d ≤ 63 → b ≤ 63
+    → AreOnLevel g image a row → AreOnLevel g image b row → AreOnLevel g image c row → AreOnLevel g image d row
+again_below {g} {image} {row} a b c d less is last few above here third =
+    subst (λ (w : ℕ). AreOnLevel g image w row) (omega (arith, is, less)) (record {
+      rising = here.rising;
+      each = λ index inside. (alike (slice_index row index)).0
+          (subst (λ (w : ℕ). IsNode g image w (slice_index row index)) (omega (arith, less)) (here.each index inside));
+      all = λ node h. here.all node (subst (λ (w : ℕ). IsNode g image w node) (omega (arith, less)) ((alike node).1 h));
+    })
+  where
+    same : AreAlike g image a c
+    same x = (λ h. ((level_all third).each x).0 (above.all x h), λ h. ((level_all above).each x).0 (third.all x h))
+
+    alike : AreAlike g image (a + (b - a)) (c + (b - a))
+    alike = alike_below (b - a) a c (omega (arith, less, few)) (omega (arith, less, is, last)) same
 
 -- all targets, each once
 pub all_under : {g : Layout} {image : Image} {row : List ℕ} {n : ℕ} {found once : List ℕ} → AreTargets g image row n found → n ≡ length row

@@ -88,13 +88,44 @@ fn last_nodes(alloc: Global, kept: &KeptCells, geometry: &Geometry) -> Result<Ve
 {
     let _cells = geometry.cells();
     let mut row = root_row(alloc, kept, geometry)?;
-    for _level in 0..LAST_LEVEL {
-        let under = row_under(alloc, kept, geometry, &row)?;
-        if under == row {
-            // So each level from here on has these nodes.
-            return Ok(row);
+    // One level above is kept to compare with, each time twice as far down.
+    let mut above = root_row(alloc, kept, geometry)?;
+    let mut above_level = 0;
+    let mut level = 0;
+    while level < LAST_LEVEL {
+        row = row_under(alloc, kept, geometry, &row)?;
+        level += 1;
+        if row == above {
+            level = last_alike(kept, geometry, &row, above_level, level);
         }
-        row = under;
+        if level >= 2 * above_level {
+            above = memory::from_slice(alloc, &row)?;
+            above_level = level;
+        }
     }
     Ok(row)
+}
+
+/// The last level that has these nodes again, where one level and a later one have them: so has each that is as far below.
+fn last_alike(
+    _kept: &KeptCells,
+    _geometry: &Geometry,
+    _row: &[u64],
+    above_level: u8,
+    level: u8,
+) -> u8
+    requires above { AreOnLevel _geometry.now (image_of_kept _kept.now) above_level _row.now }
+    requires here { AreOnLevel _geometry.now (image_of_kept _kept.now) level _row.now }
+    requires less { above_level < level }
+    requires most { level ≤ LAST_LEVEL }
+    ensures again { AreOnLevel _geometry.now (image_of_kept _kept.now) result _row.now }
+    ensures from { level ≤ result }
+    ensures to { result ≤ LAST_LEVEL }
+{
+    let period = level - above_level;
+    let mut last = level;
+    while last + period <= LAST_LEVEL {
+        last += period;
+    }
+    last
 }
