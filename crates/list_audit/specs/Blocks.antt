@@ -7,9 +7,10 @@ use Rattle.cell_types.specs.Image.{Image}
 use Rattle.cell_types.specs.Layout.{Layout, all_lists, list_at}
 use Rattle.cell_types.specs.declared.record_cell.RecordCell.TheVariants.{Jump}
 use Rattle.volume_meaning.specs.Nodes.{IsBlockOf}
+use Rattle.volume_meaning.specs.declared.blocks.TheConstants.{FIRST_POINTER}
 use Rattle.log_audit.specs.Leads.{LeadsInto}
 use Rattle.list_audit.specs.Numbers.{neighbour_number}
-use Rattle.list_audit.specs.declared.blocks.TheConstants.{BEHIND_POINTERS, FIRST_POINTER}
+use Rattle.list_audit.specs.declared.blocks.TheConstants.{BEHIND_POINTERS}
 use Rattle.list_audit.specs.declared.found.FoundBlocks.{FoundBlocks}
 use Rattle.list_audit.specs.declared.found.ListBlocks.{ListBlocks}
 use Rattle.list_audit.specs.declared.listed.ListBlock.{ListBlock}

@@ -6,7 +6,7 @@ use Rattle.cell_types.specs.Image.{Image}
 use Rattle.cell_types.specs.Layout.{Layout}
 use Rattle.list_audit.specs.Blocks.{IsTaken, PointsTo}
 use Rattle.list_audit.specs.Numbers.{block_number}
-use Rattle.list_audit.specs.declared.blocks.TheConstants.{BEHIND_POINTERS, FIRST_POINTER}
+use Rattle.list_audit.specs.declared.blocks.TheConstants.{BEHIND_POINTERS}
 use Rattle.list_audit.specs.declared.listed.ListBlock.{ListBlock}
 
 -- no block was followed

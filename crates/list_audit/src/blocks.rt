@@ -16,12 +16,10 @@ use crate::targets::pointer_target;
 use cell_types::{Geometry, NoMemory, memory};
 use log_audit::KeptCells;
 use std::alloc::Global;
+use volume_meaning::{FIRST_POINTER, POINTER_PLACES};
 
-/// The first pointer place of a block.
-pub(crate) const FIRST_POINTER: u32 = 128;
-
-/// The place behind its last pointer place.
-pub(crate) const BEHIND_POINTERS: u32 = 248;
+/// The place behind the last pointer place of a block.
+pub(crate) const BEHIND_POINTERS: u32 = FIRST_POINTER + POINTER_PLACES;
 
 /// The blocks of all lists, the time list among them, each of a list once, by rising numbers.
 ///

@@ -8,14 +8,14 @@ ghost use Rattle.log_audit.specs.Least.{FindsPart};
 ghost use Rattle.list_audit.specs.Blocks.{AreBlocksForTwo};
 ghost use Rattle.list_audit.specs.Entries.{KeepsEntryRule, BlockAsks, PlacesAsk};
 
-use crate::blocks::{BEHIND_POINTERS, FIRST_POINTER};
+use crate::blocks::BEHIND_POINTERS;
 use crate::found::ListBlocks;
 use crate::held_posting::posting_at;
 use crate::listed::ListBlock;
 use cell_types::{Evidence, Geometry};
 use log_audit::{KeptCells, lies_behind, lower_of};
 use tamper_rules::BLOCK_OUT_OF_ORDER;
-use volume_meaning::BLOCK_CELLS;
+use volume_meaning::{BLOCK_CELLS, FIRST_POINTER};
 
 /// The least cell of a block at which rule 8 is broken, of these blocks of all lists. Rule 8 asks the same of a block whosever
 /// it is, so that two lists of it suffice.

@@ -4,14 +4,12 @@ ghost use Rattle.list_audit.specs.Following.{AddsFollowed, HasNoneFollowed, IsFo
 ghost use Rattle.volume_meaning.specs.declared.blocks.TheConstants.{BLOCK_CELLS};
 
 use crate::between::{first_between, last_between};
-use crate::blocks::{BEHIND_POINTERS, FIRST_POINTER};
+use crate::blocks::BEHIND_POINTERS;
 use crate::listed::ListBlock;
 use cell_types::{NoMemory, memory};
 use std::alloc::Global;
 use std::collections::BTreeSet;
-
-/// How many pointer places a block has. Two blocks that begin so far apart have none in common.
-const POINTER_PLACES: u32 = BEHIND_POINTERS - FIRST_POINTER;
+use volume_meaning::{FIRST_POINTER, POINTER_PLACES};
 
 /// The numbers of the blocks whose pointers were followed so far, 8 bytes each.
 #[derive(Drop)]
@@ -44,6 +42,7 @@ impl FollowedBlocks {
             → IsFollowedAt self.now.numbers listed.now.list (listed.now.block + pointer) }
     {
         let number = listed.number();
+        // Two blocks that begin farther apart have no pointer place in common.
         let reach = u64::from(listed.block.min(POINTER_PLACES - 1));
         let Some(before) = last_between(&self.numbers, number - reach, number) else {
             return FIRST_POINTER;

@@ -24,11 +24,7 @@ use cell_types::Evidence;
 use list_audit::{ListBlock, ListBlocks};
 use log_audit::{KeptVolume, lies_behind, lower_of};
 use tamper_rules::LOST_POINTER;
-
-/// How many pointer places a block has, and the first of them.
-const POINTER_PLACES: u32 = 120;
-
-const FIRST_POINTER: u32 = 128;
+use volume_meaning::{FIRST_POINTER, POINTER_PLACES};
 
 /// How many digits a level has.
 const DIGITS: u32 = 15;

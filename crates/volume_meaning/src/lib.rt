@@ -47,7 +47,7 @@ mod posting_fields;
 mod posting_laws;
 mod word_rules;
 
-pub use blocks::{BLOCK_CELLS, ENTRY_PLACES};
+pub use blocks::{BLOCK_CELLS, ENTRY_PLACES, FIRST_POINTER, POINTER_PLACES};
 pub use held_bucket::HeldBucket;
 pub use index_digests::{digest_of, fingerprint_of, nibble_of};
 pub use laws::{
