@@ -4,6 +4,7 @@ use Rattle.std.specs.Ordering.{nat_cmp}
 use Rattle.std.specs.BTreeSet.{BTreeSet, contains}
 use Rattle.cell_types.specs.Image.{Image}
 use Rattle.cell_types.specs.Layout.{Layout}
+use Rattle.volume_meaning.specs.declared.blocks.TheConstants.{FIRST_POINTER}
 use Rattle.list_audit.specs.Blocks.{IsTaken, PointsTo}
 use Rattle.list_audit.specs.Numbers.{block_number}
 use Rattle.list_audit.specs.declared.blocks.TheConstants.{BEHIND_POINTERS}
