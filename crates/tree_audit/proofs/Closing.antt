@@ -1,18 +1,16 @@
 -- The tree's nodes, level after level.
-use Rattle.std.proofs.Common.{◌≡◌, ◌<◌, ◌≤◌, ◌+◌, ◌-◌, ◌↔◌, ◌++◌, ⊎_elim, inl, inr, ℕ, zero, suc, List, [], ◌∷◌, length, Option, Some, refl, sym, ◌∙◌, subst, ap, arith}
+use Rattle.std.proofs.Common.{◌≡◌, ◌<◌, ◌≤◌, ◌+◌, ◌↔◌, ◌++◌, ⊎_elim, inl, inr, ℕ, zero, suc, List, [], ◌∷◌, length, Option, Some, refl, sym, ◌∙◌, subst, ap, arith}
 use Rattle.std.specs.Prelude.{slice_index, slice_index_or, Contains}
 use Rattle.std.specs.List.Sorted.{IsStrictlyIncreasing}
-use Rattle.std.proofs.lemmas.List.Elements.{Contains-get_or, Contains-append_left, Contains-push, Contains-push_cases}
+use Rattle.std.proofs.lemmas.List.Elements.{Contains-append_left, Contains-push, Contains-push_cases}
 use Rattle.cell_types.specs.Image.{Image}
 use Rattle.cell_types.specs.Layout.{Layout, IsLayout, root_at}
 use Rattle.cell_types.specs.declared.record_cell.RecordCell.TheVariants.{Child}
 use Rattle.volume_meaning.specs.Nodes.{IsNode, root, under}
-use Rattle.volume_meaning.specs.Volumes.{Holds}
 use Rattle.volume_meaning.proofs.Holding.{one_record_holds}
 use Rattle.log_audit.proofs.OneMore.{below_or_at}
-use Rattle.tree_audit.specs.ChildCells.{HasChildInPool}
-use Rattle.tree_audit.specs.Nodes.{IsLastPlace, IsTarget, AddsChildTargets, IsUnder, AreUnder, AreNodesInside, AreOnLevel}
-use Rattle.tree_audit.specs.Numbers.{AreAll}
+use Rattle.tree_audit.specs.ChildCells.{HasChildInPool, IsLastPlace}
+use Rattle.tree_audit.specs.Nodes.{IsTarget, AddsChildTargets, IsUnder, AreUnder, AreOnLevel}
 
 -- an element is one whatever the default
 pub same_default : (xs : List ℕ) (k a b : ℕ) → k < length xs → slice_index_or xs k a ≡ slice_index_or xs k b
@@ -158,97 +156,10 @@ root_level {g} {image} at row is one = subst (AreOnLevel g image 0) (sym one) (r
     only node (root _ _ zero_level here) = here
     only node (under _ _ v above x next rest low levels child from to) = absurd (omega (arith, next))
 
--- the nodes under those of a level are those of the next
-pub next_level : {g : Layout} {image : Image} {level : ℕ} {row beneath : List ℕ} → level < 63 → AreOnLevel g image level row
-    → AreUnder g image row beneath → AreOnLevel g image (level + 1) beneath
-next_level {g} {image} {level} {row} {beneath} levels here are = record {
-  rising = are.rising;
-  each = λ index less.
-      let target = slice_index beneath index in
-      let u = (are.each target).0 (Contains-get_or beneath index 0 less) in
-      let t = u.target_of in
-      let above = slice_index row u.index in
-      let cell : above + t.place ≡ above + 16 + (t.place - 16) = omega (arith, t.from) in
-      under (level + 1) target level above (t.place - 16) refl (here.each u.index u.inside) (omega (arith, t.to, t.from)) levels
-      (subst (λ (c : ℕ). Holds image c (Child target)) cell t.leads.held) t.leads.from t.leads.to;
-  all = λ node is. (are.each node).1 (below node is);
-}
-  where
-    below : (node : ℕ) → IsNode g image (level + 1) node → IsUnder g image row (length row) node
-    below node (root _ _ zero_level is) = absurd (omega (arith, zero_level))
-    below node (under _ _ v above x next rest low less child from to) =
-        let same : v ≡ level = omega (arith, next) in
-        let k = here.all above (subst (λ (w : ℕ). IsNode g image w above) same rest) in
-        let at : slice_index row k.0 ≡ above = same_default row k.0 0 above k.1 ∙ k.2 in
-        let cell : above + 16 + x ≡ slice_index row k.0 + (16 + x) = omega (arith, at) in
-        record {
-          index = k.0;
-          first = k.1;
-          inside = k.1;
-          target_of = record {
-            place = 16 + x;
-            from = omega arith;
-            to = omega (arith, low);
-            leads = record { held = subst (λ (c : ℕ). Holds image c (Child node)) cell child; from = from; to = to };
-          };
-        }
-
-pub level_inside : {g : Layout} {image : Image} {level : ℕ} {row : List ℕ} → IsLayout g → AreOnLevel g image level row → AreNodesInside g row
-level_inside layout here index less = node_inside layout (here.each index less)
-
 -- there is no level below the last
 pub deepest : {g : Layout} {image : Image} {level node : ℕ} → IsNode g image level node → level < 64
 deepest (root level node first is) = omega (arith, first)
 deepest (under level node v above x next rest low levels child from to) = omega (arith, next, levels)
-
--- the nodes of a level are just these
-pub level_all : {g : Layout} {image : Image} {level : ℕ} {row : List ℕ} → AreOnLevel g image level row → AreAll (IsNode g image level) row
-level_all {g} {image} {level} {row} here = record {
-  rising = here.rising;
-  each = λ x. (
-    λ h. subst (IsNode g image level) (same_default row h.0 0 x h.1 ∙ h.2) (here.each h.0 h.1),
-    λ node. here.all x node,
-  );
-}
-
--- two levels have the same nodes
-abbrev pub AreAlike : Layout → Image → ℕ → ℕ → Type 0
-AreAlike g image a b = (x : ℕ) → IsNode g image a x ↔ IsNode g image b x
-
--- so have those below them
-node_below : {g : Layout} {image : Image} (a b : ℕ) → b < 63 → ((n : ℕ) → IsNode g image a n → IsNode g image b n) → (x : ℕ)
-    → IsNode g image (a + 1) x → IsNode g image (b + 1) x
-node_below a b less each x (root _ _ zero_level is) = absurd (omega (arith, zero_level))
-node_below {g} {image} a b less each x (under _ _ v above y next rest low levels child from to) =
-    under (b + 1) x b above y refl (each above (subst (λ (w : ℕ). IsNode g image w above) (omega (arith, next)) rest)) low less child from to
-
-alike_below : {g : Layout} {image : Image} (j a b : ℕ) → a + j ≤ 63 → b + j ≤ 63 → AreAlike g image a b → AreAlike g image (a + j) (b + j)
-alike_below {g} {image} zero a b first second alike = subst (λ (w : ℕ). AreAlike g image w (b + 0)) (omega arith)
-    (subst (AreAlike g image a) (omega arith) alike)
-alike_below {g} {image} (suc j) a b first second alike =
-    let so_far = alike_below {g = g} {image = image} j a b (omega (arith, first)) (omega (arith, second)) alike in
-    let below : AreAlike g image (a + j + 1) (b + j + 1) = λ x. (
-      node_below (a + j) (b + j) (omega (arith, second)) (λ n h. (so_far n).0 h) x,
-      node_below (b + j) (a + j) (omega (arith, first)) (λ n h. (so_far n).1 h) x,
-    ) in
-    subst (λ (w : ℕ). AreAlike g image w (b + suc j)) (omega arith) (subst (AreAlike g image (a + j + 1)) (omega arith) below)
-
--- where two levels have the nodes of a row, and a third has them, so has the one as far below that
-pub again_below : {g : Layout} {image : Image} {row : List ℕ} (a b c d : ℕ) → a < b → d + a ≡ c + b → d ≤ 63 → b ≤ 63
-    → AreOnLevel g image a row → AreOnLevel g image b row → AreOnLevel g image c row → AreOnLevel g image d row
-again_below {g} {image} {row} a b c d less is last few above here third =
-    subst (λ (w : ℕ). AreOnLevel g image w row) (omega (arith, is, less)) (record {
-      rising = here.rising;
-      each = λ index inside. (alike (slice_index row index)).0
-          (subst (λ (w : ℕ). IsNode g image w (slice_index row index)) (omega (arith, less)) (here.each index inside));
-      all = λ node h. here.all node (subst (λ (w : ℕ). IsNode g image w node) (omega (arith, less)) ((alike node).1 h));
-    })
-  where
-    same : AreAlike g image a c
-    same x = (λ h. ((level_all third).each x).0 (above.all x h), λ h. ((level_all above).each x).0 (third.all x h))
-
-    alike : AreAlike g image (a + (b - a)) (c + (b - a))
-    alike = alike_below (b - a) a c (omega (arith, less, few)) (omega (arith, less, is, last)) same
 
 -- all targets, each once
 pub all_under : {g : Layout} {image : Image} {row : List ℕ} {n : ℕ} {found once : List ℕ} → AreTargets g image row n found → n ≡ length row

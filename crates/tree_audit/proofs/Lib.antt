@@ -5,11 +5,13 @@ pub mod Gathering
 pub mod Going
 pub mod Judging
 pub mod Leading
+pub mod Marking
 pub mod Meeting
 pub mod Numbering
 pub mod Occupying
 pub mod Owning
 pub mod Pathing
+pub mod Placing
 pub mod PointerLeading
 pub mod Reading
 pub mod Spanning

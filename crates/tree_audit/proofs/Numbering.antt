@@ -1,14 +1,14 @@
 -- Numbers that are gathered one after another, and found by bisection.
-use Rattle.std.proofs.Common.{◌≡◌, ◌<◌, ◌≤◌, ◌+◌, ◌⊎◌, ◌++◌, ⊎_elim, inl, inr, ℕ, List, [], ◌∷◌, length, Some, sym, ◌∙◌, subst, ap, arith}
+use Rattle.std.proofs.Common.{◌≡◌, ◌<◌, ◌≤◌, ◌+◌, ◌⊎◌, ◌++◌, ⊎_elim, inl, inr, ℕ, List, [], ◌∷◌, length, Option, Some, sym, ◌∙◌, subst, ap, arith}
 use Rattle.std.specs.Prelude.{slice_get, Contains}
 use Rattle.std.specs.List.Sorted.{IsStrictlyIncreasing}
 use Rattle.std.proofs.lemmas.List.Elements.{Contains-append_left, Contains-push, Contains-push_cases}
-use Rattle.std.proofs.lemmas.Option.{get_or_from_slice_get, slice_get_within, slice_get-get_or}
+use Rattle.std.proofs.lemmas.Option.{get_or_from_slice_get, same_Some, slice_get_within, slice_get-get_or}
 use Rattle.cell_types.specs.Image.{Image}
 use Rattle.cell_types.specs.Layout.{Layout}
-use Rattle.volume_meaning.specs.Nodes.{IsNode}
 use Rattle.log_audit.proofs.OneMore.{below_or_at}
-use Rattle.tree_audit.specs.ChildCells.{HasChildInPool, IsLeadAmong, IsLeadOf, lead_number}
+use Rattle.tree_audit.specs.ChildCells.{HasChildInPool, IsLastPlace, IsLeadAmong, IsLeadOf, lead_number}
+use Rattle.tree_audit.specs.Marks.{AreMarked}
 use Rattle.tree_audit.specs.Nodes.{AreNodes, IsSomeNode}
 use Rattle.tree_audit.specs.Numbers.{AddsNumbers, AreAll}
 use Rattle.tree_audit.specs.declared.nodes.TreeNodes.{TreeNodes}
@@ -88,9 +88,42 @@ all_same P Q all to from = record {
   each = λ x. (λ h. to x ((all.each x).0 h), λ q. (all.each x).1 (from x q));
 }
 
--- no child cell of a node yet; one that leads nowhere; and one that leads on
-pub no_lead : (g : Layout) (image : Image) (node x : ℕ) → IsLeadOf g image node 16 x → ⊥
-no_lead g image node x l = omega (arith, l.from, l.to)
+-- the child cells of a node before some place were added before
+pub leads_before : (g : Layout) (image : Image) (node first : ℕ) (old : List ℕ) → ((x : ℕ) → IsLeadOf g image node first x → Contains old x)
+    → AddsNumbers (IsLeadOf g image node first) old old
+leads_before g image node first old added = record {
+  each = λ x. (
+    λ h. inl h,
+    λ h. ⊎_elim (λ (before : Contains old x). before) (λ (l : IsLeadOf g image node first x). added x l) h,
+  );
+}
+
+-- those of the last node were, if there is one
+abbrev pub AreLastLeads : Layout → Image → Option ℕ → List ℕ → Type 0
+AreLastLeads g image last found = (before x : ℕ) → last ≡ Some before → IsLeadOf g image before 32 x → Contains found x
+
+-- of a node whose first places are all the last one's
+pub last_leads : {g : Layout} {image : Image} {last : Option ℕ} (found : List ℕ) {node first : ℕ} → AreLastLeads g image last found
+    → ((place : ℕ) → 16 ≤ place → place < first → IsLastPlace last (node + place))
+    → (x : ℕ) → IsLeadOf g image node first x → Contains found x
+last_leads {g} {image} found are passed x l =
+    let p = passed l.place l.from l.to in
+    are p.node x p.is_last (record {
+      place = p.here.place;
+      from = p.here.from;
+      to = p.here.to;
+      target = l.target;
+      leads = subst (λ (k : ℕ). HasChildInPool g image k l.target) p.here.is l.leads;
+      is = subst (λ (k : ℕ). x ≡ lead_number l.target k) p.here.is l.is;
+    })
+
+-- the node whose child cells were added is the last one
+pub now_leads : {g : Layout} {image : Image} {node : ℕ} {old new : List ℕ} → AddsNumbers (IsLeadOf g image node 32) old new
+    → AreLastLeads g image (Some node) new
+now_leads {g} {image} {node} {old} {new} adds before x is l =
+    (adds.each x).1 (inr (subst (λ (k : ℕ). IsLeadOf g image k 32 x) (sym (same_Some node before is)) l))
+
+-- one that leads nowhere; and one that leads on
 
 module _ {g : Layout} {image : Image} {node place : ℕ} {old new : List ℕ} (adds : AddsNumbers (IsLeadOf g image node place) old new) where
   later : (x : ℕ) → IsLeadOf g image node place x → IsLeadOf g image node (place + 1) x
@@ -133,7 +166,7 @@ more_leads {g} {image} {nodes} {n} {old} {new} {after} node adds there more =
 
 -- the nodes of a tree, those of its last level, and its child cells
 pub are_nodes : {g : Layout} {image : Image} (tree : TreeNodes) → AreAll (IsSomeNode g image) tree.nodes.items
-    → AreAll (IsNode g image 63) tree.last.items → AreAll (IsLeadAmong g image tree.nodes.items (length tree.nodes.items)) tree.leads.items
+    → AreMarked g image 63 tree.nodes.items tree.on_last.items → AreAll (IsLeadAmong g image tree.nodes.items (length tree.nodes.items)) tree.leads.items
     → AreNodes g image tree
 are_nodes {g} {image} tree nodes last leads = record {
   nodes = nodes;

@@ -1,11 +1,24 @@
 -- Which child cells lead to which nodes, by numbers.
-use Rattle.std.specs.Prelude.{◌≡◌, ◌<◌, ◌≤◌, ◌+◌, ◌*◌, ℕ, List, slice_get, Some}
+use Rattle.std.specs.Prelude.{◌≡◌, ◌<◌, ◌≤◌, ◌+◌, ◌*◌, ℕ, List, slice_get, Option, Some}
 use Rattle.cell_types.specs.Image.{Image}
 use Rattle.cell_types.specs.Layout.{Layout}
 use Rattle.cell_types.specs.declared.record_cell.RecordCell.TheVariants.{Child}
 use Rattle.volume_meaning.specs.declared.nodes.TheConstants.{NODE_BUCKETS, NODE_CELLS}
 use Rattle.log_audit.specs.Leads.{LeadsInto}
 use Rattle.tree_audit.specs.declared.child_cells.TheConstants.{TARGET_STEP}
+
+-- the cell is at the place of a child cell of the node
+pub record IsChildPlace (node at : ℕ) : Type 0 where
+  pub place : ℕ
+  pub from : NODE_BUCKETS ≤ place
+  pub to : place < NODE_CELLS
+  pub is : at ≡ node + place
+
+-- the cell is at the place of a child cell of the last node, if there is one
+pub record IsLastPlace (last : Option ℕ) (at : ℕ) : Type 0 where
+  pub node : ℕ
+  pub is_last : last ≡ Some node
+  pub here : IsChildPlace node at
 
 -- the child cell there leads to a node whose cells lie in the pool
 abbrev pub HasChildInPool : Layout → Image → ℕ → ℕ → Type 0

@@ -3,11 +3,12 @@ use Rattle.std.specs.Prelude.{◌≡◌, ◌<◌, ◌≤◌, ◌+◌, ◌⊎◌,
 use Rattle.cell_types.specs.Image.{Image}
 use Rattle.cell_types.specs.Layout.{Layout}
 use Rattle.cell_types.specs.declared.record_cell.RecordCell.TheVariants.{Child}
-use Rattle.volume_meaning.specs.declared.nodes.TheConstants.{NODE_BUCKETS}
 use Rattle.volume_meaning.specs.Nodes.{AreApart, IsBlockOf, IsNode}
 use Rattle.volume_meaning.specs.Documents.{document_at}
 use Rattle.volume_meaning.specs.Slots.{IsEdge, Stores}
 use Rattle.volume_meaning.specs.Volumes.{Holds}
+use Rattle.volume_meaning.specs.declared.blocks.TheConstants.{BLOCK_CELLS}
+use Rattle.volume_meaning.specs.declared.nodes.TheConstants.{NODE_BUCKETS, NODE_CELLS}
 use Rattle.tamper_rules.specs.Journals.{journal_at}
 use Rattle.tamper_rules.specs.Rules.{LeadsDownWell}
 use Rattle.log_audit.specs.declared.stored.StoredSlot.{StoredSlot}
@@ -43,17 +44,18 @@ pub record IsJournaled (g : Layout) (image : Image) (cell target : ℕ) : Type 0
 -- no child cell of a node before this one leads to the target
 abbrev pub IsFirstTo : Layout → Image → ℕ → ℕ → Type 0
 IsFirstTo g image cell target =
-    (w other y : ℕ) → IsNode g image w other → y < 16 → other + 16 + y < cell → Holds image (other + 16 + y) (Child target) → ⊥
+    (w other y : ℕ) → IsNode g image w other → y < NODE_BUCKETS → other + NODE_BUCKETS + y < cell
+    → Holds image (other + NODE_BUCKETS + y) (Child target) → ⊥
 
 -- the target's cells meet no block and no other node
 pub record IsClear (g : Layout) (image : Image) (target : ℕ) : Type 0 where
-  pub blocks : (k other : ℕ) → IsBlockOf g image k other → AreApart target 32 other 256
-  pub nodes : (w other : ℕ) → IsNode g image w other → (other ≡ target) ⊎ AreApart target 32 other 32
+  pub blocks : (k other : ℕ) → IsBlockOf g image k other → AreApart target NODE_CELLS other BLOCK_CELLS
+  pub nodes : (w other : ℕ) → IsNode g image w other → (other ≡ target) ⊎ AreApart target NODE_CELLS other NODE_CELLS
 
 -- The target of a child cell lies before each edge, is journaled with the cell, and is clear; and the cell is the first
 -- to it.
 pub record IsWellLed (g : Layout) (image : Image) (cell target : ℕ) : Type 0 where
-  pub edge : (at : ℕ) → IsEdge g image image at → target + 32 ≤ at
+  pub edge : (at : ℕ) → IsEdge g image image at → target + NODE_CELLS ≤ at
   pub journaled : IsJournaled g image cell target
   pub first : IsFirstTo g image cell target
   pub clear : IsClear g image target

@@ -3,7 +3,9 @@ pub mod ChildCells
 pub mod Children
 pub mod Documents
 pub mod Leading
+pub mod Marks
 pub mod Nodes
 pub mod Numbers
 pub mod Occupied
 pub mod Paths
+pub mod Ways

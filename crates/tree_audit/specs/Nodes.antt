@@ -1,5 +1,5 @@
 -- The nodes of a volume's tree of identifiers, found level after level.
-use Rattle.std.specs.Prelude.{◌≡◌, ◌<◌, ◌≤◌, ◌+◌, ◌↔◌, ◌⊎◌, ℕ, List, length, slice_index, Option, Some, true, Contains}
+use Rattle.std.specs.Prelude.{◌≡◌, ◌<◌, ◌≤◌, ◌+◌, ◌↔◌, ◌⊎◌, ℕ, List, length, slice_index, true, Contains}
 use Rattle.std.specs.BTreeSet.{BTreeSet, contains}
 use Rattle.std.specs.Ordering.{nat_cmp}
 use Rattle.std.specs.List.Sorted.{IsStrictlyIncreasing}
@@ -8,22 +8,10 @@ use Rattle.cell_types.specs.Layout.{Layout}
 use Rattle.volume_meaning.specs.Nodes.{IsNode}
 use Rattle.volume_meaning.specs.declared.nodes.TheConstants.{NODE_BUCKETS, NODE_CELLS}
 use Rattle.tree_audit.specs.ChildCells.{HasChildInPool, IsLeadOf}
+use Rattle.tree_audit.specs.Marks.{AreMarked}
 use Rattle.tree_audit.specs.Numbers.{AreAll}
 use Rattle.tree_audit.specs.declared.nodes.TheConstants.{LAST_LEVEL}
 use Rattle.tree_audit.specs.declared.nodes.TreeNodes.{TreeNodes}
-
--- the cell is at the place of a child cell of the node
-pub record IsChildPlace (node at : ℕ) : Type 0 where
-  pub place : ℕ
-  pub from : NODE_BUCKETS ≤ place
-  pub to : place < NODE_CELLS
-  pub is : at ≡ node + place
-
--- the cell is at the place of a child cell of the last node, if there is one
-pub record IsLastPlace (last : Option ℕ) (at : ℕ) : Type 0 where
-  pub node : ℕ
-  pub is_last : last ≡ Some node
-  pub here : IsChildPlace node at
 
 -- a child cell of the node leads there, one of those before this place
 pub record IsTarget (g : Layout) (image : Image) (node below target : ℕ) : Type 0 where
@@ -68,8 +56,8 @@ pub record AddsRow (row : List ℕ) (old new : BTreeSet ℕ) (fresh : List ℕ) 
   pub fresh_is : (x : ℕ) → Contains fresh x → Contains row x
   pub rest : (x : ℕ) → Contains row x → Contains fresh x ⊎ (contains nat_cmp old x ≡ true)
 
--- These are the nodes of the tree, those of its last level, and the numbers of the child cells that lead to one.
+-- These are the nodes of the tree, which of them the last level has, and the numbers of the child cells that lead to one.
 pub record AreNodes (g : Layout) (image : Image) (tree : TreeNodes) : Type 0 where
   pub nodes : AreAll (IsSomeNode g image) tree.nodes.items
-  pub last : AreAll (IsNode g image LAST_LEVEL) tree.last.items
+  pub last : AreMarked g image LAST_LEVEL tree.nodes.items tree.on_last.items
   pub leads : AreAll (λ x. (node : ℕ) × IsSomeNode g image node × IsLeadOf g image node NODE_CELLS x) tree.leads.items

@@ -20,10 +20,10 @@
 //!
 //! Nobody says that the tree is a good one: child cells may lead in a circle, so that a node stands at many levels, and
 //! nodes may meet. What rules 10 to 12 ask of a node is the same at each of its levels, but for the last one, below which
-//! there is none. So `nodes_of` finds each node once, and those of the last level besides, level after level until the
-//! nodes of an earlier one come again. Since nodes may meet, what is found at one of them is joined with what was found
-//! before by `log_audit::lower_of`. What meets a node is found by bisection, among the rising numbers of where nodes and
-//! blocks begin.
+//! there is none. So `nodes_of` finds each node once, and marks level after level which of them it has, by the ways of
+//! the child cells that lead from one to another. Since nodes may meet, what is found at one of them is joined with what
+//! was found before by `log_audit::lower_of`. What meets a node is found by bisection, among the rising numbers of where
+//! nodes and blocks begin.
 //!
 //! A document stands on the volume that cell 0 states. So who asks about documents shows first that cell 0 states this
 //! volume. Rules 11 and 14 need that rule 4 is kept: then an identifier is known by the first cells of its document, and a
@@ -41,6 +41,7 @@ mod children;
 mod documents;
 mod leads;
 mod looks;
+mod marks;
 mod nodes;
 mod occupied;
 mod paths;
@@ -48,6 +49,7 @@ mod pointers;
 mod rows;
 mod spans;
 mod trails;
+mod ways;
 
 pub use buckets::first_broken_bucket;
 pub use children::first_broken_child;

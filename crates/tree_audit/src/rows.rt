@@ -1,7 +1,8 @@
 //! The nodes of one level, by rising numbers, and those of the next.
 ghost use Rattle.std.specs.Prelude.{◌≡◌, ◌<◌, ◌≤◌, ◌+◌, ◌^◌, ℕ, IfOk, OnOk, Contains};
 ghost use Rattle.log_audit.specs.Kept.{image_of_kept};
-ghost use Rattle.tree_audit.specs.Nodes.{AddsChildTargets, AreNodesInside, AreOnLevel, AreUnder, IsLastPlace, IsTarget};
+ghost use Rattle.tree_audit.specs.ChildCells.{IsLastPlace};
+ghost use Rattle.tree_audit.specs.Nodes.{AddsChildTargets, AreNodesInside, AreOnLevel, AreUnder, IsTarget};
 
 use crate::looks::child_at;
 use cell_types::{Geometry, NoMemory, memory};
@@ -48,7 +49,7 @@ pub(crate) fn row_under(
 
 /// The first place of a child cell of a node that is none of the last node's. Nodes may meet where cells were tampered
 /// with, and a child cell of two of them is followed once.
-fn first_place_behind(node: u32, last: Option<u32>) -> u32
+pub(crate) fn first_place_behind(node: u32, last: Option<u32>) -> u32
     ensures from { NODE_BUCKETS ≤ result }
     ensures to { result ≤ NODE_CELLS }
     ensures passed { (place : ℕ) → NODE_BUCKETS ≤ place → place < result → IsLastPlace last (node + place) }

@@ -1,0 +1,166 @@
+-- Places among numbers that rise, and the ways of child cells.
+use Rattle.std.proofs.Common.{◌≡◌, ◌<◌, ◌≤◌, ◌+◌, ◌-◌, ◌/◌, ◌↔◌, ◌⊎◌, ◌++◌, ⊎_elim, inl, inr, ℕ, List, [], ◌∷◌, length, get_or, Some, refl, sym, ◌∙◌, subst, ap, arith}
+use Rattle.std.specs.Prelude.{Result, Ok, Err, slice_get, slice_index, Contains}
+use Rattle.std.specs.List.Sorted.{IsBinarySearchResult, IsStrictlyIncreasing}
+use Rattle.std.specs.Ordering.{nat_cmp}
+use Rattle.std.proofs.lemmas.Bool.{cases_order}
+use Rattle.std.proofs.lemmas.List.Kept.{AllPairs-from_increasing}
+use Rattle.std.proofs.lemmas.List.Sorted.{searched}
+use Rattle.std.proofs.lemmas.Option.{get_or_from_slice_get, same_Some, slice_get_within}
+use Rattle.log_audit.proofs.OneMore.{below_or_at, get_before, get_last, get_pushed}
+use Rattle.tree_audit.specs.ChildCells.{IsChildPlace}
+use Rattle.tree_audit.specs.Ways.{AreLower, AreWays, BeginsAt, HasWay, IsWayOf}
+use Rattle.tree_audit.specs.declared.child_cells.TheConstants.{TARGET_STEP}
+use Rattle.tree_audit.specs.declared.ways.Way.{Way}
+use Rattle.tree_audit.proofs.Closing.{same_default}
+
+below_or_not : (a b : ℕ) → (a < b) ⊎ (b ≤ a)
+below_or_not a b = ⊎_elim
+    (λ (same : a ≡ b). inr (omega (arith, same)))
+    (λ differ. ⊎_elim (λ (less : a < b). inl less) (λ (more : b < a). inr (omega (arith, more))) differ)
+    (cases_order a b)
+
+rises : (numbers : List ℕ) → IsStrictlyIncreasing numbers → (a b : ℕ) → a < b → b < length numbers → slice_index numbers a < slice_index numbers b
+rises numbers rising a b less inside = AllPairs-from_increasing numbers rising a b 0 less inside
+
+-- numbers that rise never fall
+rises_to : (numbers : List ℕ) → IsStrictlyIncreasing numbers → (a b : ℕ) → a ≤ b → b < length numbers → slice_index numbers a ≤ slice_index numbers b
+rises_to numbers rising a b low inside = ⊎_elim
+    (λ (same : a ≡ b). omega (arith, ap (slice_index numbers) same))
+    (λ differ. ⊎_elim
+    (λ (less : a < b). let e = rises numbers rising a b less inside in omega (arith, e))
+    (λ (more : b < a). absurd (omega (arith, more, low)))
+    differ)
+    (cases_order a b)
+
+-- what a search of them finds, and what it says of a number that is not there
+module _ (numbers : List ℕ) (number : ℕ) (rising : IsStrictlyIncreasing numbers) {r : Result ℕ ℕ} {place : ℕ}
+    (position : IsBinarySearchResult (λ (y : ℕ). nat_cmp y number) numbers r) where
+  pub found : r ≡ Ok place → (place < length numbers) × (slice_index numbers place ≡ number)
+  found is = searched numbers number (Ok place) (subst (λ (s : Result ℕ ℕ). IsBinarySearchResult (λ (y : ℕ). nat_cmp y number) numbers s) is position)
+      (rises_to numbers rising)
+
+  missed : r ≡ Err place
+      → (place ≤ length numbers) × ((k : ℕ) → k < place → get_or numbers k 0 < number) × ((k : ℕ) → place ≤ k → k < length numbers → number < get_or numbers k 0)
+  missed is = searched numbers number (Err place) (subst (λ (s : Result ℕ ℕ). IsBinarySearchResult (λ (y : ℕ). nat_cmp y number) numbers s) is position)
+      (rises_to numbers rising)
+
+  -- the lower ones stand before it
+  pub lower_found : r ≡ Ok place → AreLower numbers number place
+  lower_found is = let at = found is in record {
+    inside = omega (arith, at.0);
+    lower = λ k less. let e = rises numbers rising k place less at.0 in omega (arith, e, at.1);
+    rest = λ k from to. let e = rises_to numbers rising place k from to in omega (arith, e, at.1);
+  }
+
+  pub lower_missed : r ≡ Err place → AreLower numbers number place
+  lower_missed is = let none = missed is in record {
+    inside = none.0;
+    lower = none.1;
+    rest = λ k from to. let e = none.2 k from to in omega (arith, e);
+  }
+
+  pub not_there : r ≡ Err place → Contains numbers number → ⊥
+  not_there is has =
+      let none = missed is in
+      let at : get_or numbers has.0 0 ≡ number = same_default numbers has.0 0 number has.1 ∙ has.2 in
+      ⊎_elim
+      (λ (less : has.0 < place). let e = none.1 has.0 less in omega (arith, e, at))
+      (λ (rest : place ≤ has.0). let e = none.2 has.0 rest has.1 in omega (arith, e, at))
+      (below_or_not has.0 place)
+
+-- what stands at a place is there
+pub has_item : (numbers : List ℕ) (place number : ℕ) → slice_get numbers place ≡ Some number → Contains numbers number
+has_item numbers place number there =
+    (place, slice_get_within numbers place number there, get_or_from_slice_get numbers place number number there)
+
+-- and at no other place
+pub one_place : (numbers : List ℕ) {a b number : ℕ} → IsStrictlyIncreasing numbers → slice_get numbers a ≡ Some number → slice_get numbers b ≡ Some number
+    → a ≡ b
+one_place numbers {a} {b} {number} rising first second =
+    let at_a : slice_index numbers a ≡ number = get_or_from_slice_get numbers a number 0 first in
+    let at_b : slice_index numbers b ≡ number = get_or_from_slice_get numbers b number 0 second in
+    ⊎_elim
+    (λ (same : a ≡ b). same)
+    (λ differ. absurd (⊎_elim
+    (λ (less : a < b). let e = rises numbers rising a b less (slice_get_within numbers b number second) in omega (arith, e, at_a, at_b))
+    (λ (more : b < a). let e = rises numbers rising b a more (slice_get_within numbers a number first) in omega (arith, e, at_a, at_b))
+    differ))
+    (cases_order a b)
+
+-- the first number behind the node's own is behind that of the cell: whether the node has it
+pub begins_at : {numbers : List ℕ} (cell : ℕ) {first behind : ℕ} → AreLower numbers (cell + 1 - 32) first → AreLower numbers (cell + 1 - 16) behind
+    → (place node : ℕ) → slice_get numbers place ≡ Some node → (target : ℕ)
+    → BeginsAt (record { first = first; behind = behind; target = target }) place ↔ IsChildPlace node cell
+begins_at {numbers} cell {first} {behind} low high place node there target =
+    let at : slice_index numbers place ≡ node = get_or_from_slice_get numbers place node 0 there in
+    let inside = slice_get_within numbers place node there in (
+      λ h. let a = low.rest place h.0 inside in let b = high.lower place h.1 in
+          record { place = cell - node; from = omega (arith, a, b, at); to = omega (arith, a, b, at); is = omega (arith, a, b, at) },
+      λ (c : IsChildPlace node cell). (
+        ⊎_elim
+            (λ (before : place < first). absurd (let a = low.lower place before in omega (arith, a, at, c.to, c.is)))
+            (λ (h : first ≤ place). h)
+            (below_or_not place first),
+        ⊎_elim
+            (λ (h : place < behind). h)
+            (λ (after : behind ≤ place). absurd (let b = high.rest place after inside in omega (arith, b, at, c.from, c.is)))
+            (below_or_not place behind),
+      ),
+    )
+
+-- no way yet
+pub no_ways : (nodes leads : List ℕ) (ways : List Way) → ways ≡ [] → AreWays nodes leads 0 ways
+no_ways nodes leads ways empty = record {
+  each = λ k way there. absurd (omega (arith, slice_get_within ways k way there, ap length empty));
+  all = λ k lead less. absurd (omega (arith, less));
+}
+
+module _ {nodes leads : List ℕ} {n : ℕ} {ways : List Way} (so_far : AreWays nodes leads n ways) (lead : ℕ) (there : slice_get leads n ≡ Some lead) where
+  -- a child cell that leads to none of the nodes
+  pub way_to_none : (Contains nodes (lead / TARGET_STEP) → ⊥) → AreWays nodes leads (n + 1) ways
+  way_to_none none = record {
+    each = so_far.each;
+    all = λ k other less here has. ⊎_elim
+        (λ (before : k < n). so_far.all k other before here has)
+        (λ (same : k ≡ n). absurd (none (subst (λ (x : ℕ). Contains nodes (x / TARGET_STEP)) (this k other here same) has)))
+        (below_or_at k n less);
+  }
+    where
+      this : (k other : ℕ) → slice_get leads k ≡ Some other → k ≡ n → other ≡ lead
+      this k other here same = same_Some other lead (sym (subst (λ (i : ℕ). slice_get leads i ≡ Some other) same here) ∙ there)
+
+  -- and one that leads to one
+  pub one_way : {way : Way} {after : List Way} → IsWayOf nodes lead way → after ≡ ways ++ way ∷ [] → AreWays nodes leads (n + 1) after
+  one_way {way} {after} is put = record {
+    each = λ k other here. ⊎_elim
+        (λ (before : slice_get ways k ≡ Some other). so_far.each k other before)
+        (λ (same : way ≡ other). record { place = n; lead = lead; there = there; is = subst (IsWayOf nodes lead) same is })
+        (pushed k other (subst (λ (xs : List Way). slice_get xs k ≡ Some other) put here));
+    all = λ k other less here has. ⊎_elim
+        (λ (before : k < n). kept (so_far.all k other before here has))
+        (λ (same : k ≡ n).
+        let this : other ≡ lead = same_Some other lead (sym (subst (λ (i : ℕ). slice_get leads i ≡ Some other) same here) ∙ there) in
+        record {
+          place = length ways;
+          way = way;
+          there = subst (λ (xs : List Way). slice_get xs (length ways) ≡ Some way) (sym put) (get_last ways way (length ways) refl);
+          is = subst (λ (x : ℕ). IsWayOf nodes x way) (sym this) is;
+        })
+        (below_or_at k n less);
+  }
+    where
+      pushed : (k : ℕ) (other : Way) → slice_get (ways ++ way ∷ []) k ≡ Some other → (slice_get ways k ≡ Some other) ⊎ (way ≡ other)
+      pushed k other here = ⊎_elim
+          (λ (before : slice_get ways k ≡ Some other). inl before)
+          (λ (last : (k ≡ length ways) × (way ≡ other)). inr last.1)
+          (get_pushed ways way k other here)
+
+      kept : {x : ℕ} → HasWay nodes ways x → HasWay nodes after x
+      kept h = record {
+        place = h.place;
+        way = h.way;
+        there = subst (λ (xs : List Way). slice_get xs h.place ≡ Some h.way) (sym put)
+            (get_before ways way h.place (slice_get_within ways h.place h.way h.there) ∙ h.there);
+        is = h.is;
+      }
