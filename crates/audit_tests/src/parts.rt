@@ -206,7 +206,7 @@ fn each_node_is_there_once(rt: HostRuntime) -> Result<(), Fail> {
     let nodes = nodes_of(rt.alloc(), &kept, &geometry)?;
     // The root; 640 at each level from 2 to 63; and 700 at each from 1 on.
     assert_eq!(rt; nodes.nodes.as_slice(), [548, 640, 700].as_slice());
-    assert_eq!(rt; nodes.last.as_slice(), [640, 700].as_slice());
+    assert_eq!(rt; nodes.on_last.as_slice(), [false, true, true].as_slice());
     Ok(())
 }
 
@@ -224,7 +224,7 @@ fn a_node_of_each_other_level_is_one_of_the_last(rt: HostRuntime) -> Result<(), 
     let geometry = Geometry::new(8, 2, 1_000, 1).ok_or("no volume")?;
     let nodes = nodes_of(rt.alloc(), &kept, &geometry)?;
     assert_eq!(rt; nodes.nodes.as_slice(), [548, 640, 700].as_slice());
-    assert_eq!(rt; nodes.last.as_slice(), [700].as_slice());
+    assert_eq!(rt; nodes.on_last.as_slice(), [false, false, true].as_slice());
     Ok(())
 }
 
