@@ -7,7 +7,7 @@ use Rattle.std.proofs.lemmas.Bool.{cases_order}
 use Rattle.std.proofs.lemmas.Bool.Decides.{nat_tests}
 use Rattle.std.proofs.lemmas.Option.{slice_get_within}
 use Rattle.log_audit.proofs.OneMore.{get_before, get_last, get_pushed}
-use Rattle.list_audit.specs.Blocks.{AddsBlock, AreForTwo, AreFound, IsAmongBlocks, IsShared, IsTaken}
+use Rattle.list_audit.specs.Blocks.{AddsBlock, AreForTwo, AreFound, IsAmongBlocks, IsNumbered, IsShared, IsTaken}
 use Rattle.list_audit.specs.declared.found.FoundBlocks.{FoundBlocks}
 use Rattle.list_audit.specs.declared.listed.ListBlock.{ListBlock}
 use Rattle.list_audit.specs.declared.listed.TheConstants.{BLOCK_STEP}
@@ -22,20 +22,21 @@ module _ {for_two : Bool} {l block : ℕ} {old new : List ListBlock} where
   pub among_more : AddsBlock for_two l block old new → (m other : ℕ) → IsAmongBlocks old m other → IsAmongBlocks new m other
   among_more adds m other a = record { place = a.place; one = a.one; there = adds.keeps a.place a.one a.there; list = a.list; is = a.is }
 
+  -- a block that two lists have is one of more
+  pub shared_more : AddsBlock for_two l block old new → {other : ℕ} → IsShared old other → IsShared new other
+  shared_more adds {other} s = record {
+    one = s.one;
+    other = s.other;
+    first = among_more adds s.one other s.first;
+    second = among_more adds s.other other s.second;
+    two = s.two;
+  }
+
   -- what was taken is taken of more
   pub taken_more : AddsBlock for_two l block old new → (m other : ℕ) → IsTaken for_two old m other → IsTaken for_two new m other
   taken_more adds m other taken = ⊎_elim
       (λ (among : IsAmongBlocks old m other). inl (among_more adds m other among))
-      (λ (shared : IsTrue for_two × IsShared old other). let s = shared.1 in inr (
-        shared.0,
-        record {
-          one = s.one;
-          other = s.other;
-          first = among_more adds s.one other s.first;
-          second = among_more adds s.other other s.second;
-          two = s.two;
-        },
-      ))
+      (λ (shared : IsTrue for_two × IsShared old other). inr (shared.0, shared_more adds shared.1))
       taken
 
 module _ {for_two : Bool} {l block : ℕ} {old new : List ListBlock} (adds : AddsBlock for_two l block old new) (alone : IsShared old block → ⊥) where
@@ -155,6 +156,32 @@ module _ {found : FoundBlocks} (are : AreFound found) (block : ListBlock) where
     only = λ i b there. inl there;
   }
 
+  -- so was one that two lists have
+  pub adds_shared : IsTrue found.for_two × IsShared found.blocks.items block.block
+      → AddsBlock found.for_two block.list block.block found.blocks.items found.blocks.items
+  adds_shared shared = record { keeps = λ i b there. there; has = inr shared; only = λ i b there. inl there }
+
+  -- which may be noted
+  pub found_shared : {after : FoundBlocks} → after.for_two ≡ found.for_two → after.blocks.items ≡ found.blocks.items → after.numbers ≡ found.numbers
+      → SetUpdates nat_cmp found.shared after.shared block.block true → IsTrue found.for_two × IsShared found.blocks.items block.block → AreFound after
+  found_shared {after} mode is numbers updates shared = record {
+    each = λ i b there. subst (λ (set : BTreeSet ℕ). contains nat_cmp set (neighbour_number b.list b.block) ≡ true) (sym numbers) (are.each i b (here i b there));
+    small = λ i b there. are.small i b (here i b there);
+    all = λ n has. subst (λ (blocks : List ListBlock). IsNumbered blocks n) (sym is)
+        (are.all n (subst (λ (set : BTreeSet ℕ). contains nat_cmp set n ≡ true) numbers has));
+    most = λ for_two. subst AreForTwo (sym is) (are.most (sym mode ∙ for_two));
+    shared = λ other has. ⊎_elim
+        (λ (same : other ≡ block.block). (mode ∙ shared.0, still other (subst (IsShared found.blocks.items) (sym same) shared.1)))
+        (λ before. let s = are.shared other before in (mode ∙ s.0, still other s.1))
+        (more_numbers found.shared after.shared block.block updates other has);
+  }
+    where
+      here : (i : ℕ) (b : ListBlock) → slice_get after.blocks.items i ≡ Some b → slice_get found.blocks.items i ≡ Some b
+      here i b there = subst (λ (blocks : List ListBlock). slice_get blocks i ≡ Some b) is there
+
+      still : (other : ℕ) → IsShared found.blocks.items other → IsShared after.blocks.items other
+      still other s = subst (λ (blocks : List ListBlock). IsShared blocks other) (sym is) s
+
   -- the one that was put is among them
   among_last : {new : List ListBlock} → new ≡ found.blocks.items ++ block ∷ [] → IsAmongBlocks new block.list block.block
   among_last {new} is = record {
@@ -180,9 +207,9 @@ module _ {found : FoundBlocks} (are : AreFound found) (block : ListBlock) where
 
   -- and its number is one of the numbers
   pub found_behind : {after : FoundBlocks} → after.for_two ≡ found.for_two → after.blocks.items ≡ found.blocks.items ++ block ∷ []
-      → SetUpdates nat_cmp found.numbers after.numbers (neighbour_number block.list block.block) true
+      → SetUpdates nat_cmp found.numbers after.numbers (neighbour_number block.list block.block) true → after.shared ≡ found.shared
       → (block.list < BLOCK_STEP) × (block.block < 2 ^ 32) → (IsTrue found.for_two → IsShared found.blocks.items block.block → ⊥) → AreFound after
-  found_behind {after} mode is updates small alone = record {
+  found_behind {after} mode is updates shared small alone = record {
     each = λ i b there. ⊎_elim
         (λ (h : slice_get found.blocks.items i ≡ Some b). kept_number found.numbers after.numbers number updates (neighbour_number b.list b.block) (are.each i b h))
         (λ (h : (b.list ≡ block.list) × (b.block ≡ block.block)).
@@ -197,6 +224,8 @@ module _ {found : FoundBlocks} (are : AreFound found) (block : ListBlock) where
         (λ before. let w = are.all n before in record { place = w.place; one = w.one; there = adds.keeps w.place w.one w.there; is = w.is })
         (more_numbers found.numbers after.numbers number updates n has);
     most = λ for_two. let two : IsTrue found.for_two = sym mode ∙ for_two in most_more adds (alone two) (are.most two);
+    shared = λ other has. let s = are.shared other (subst (λ (set : BTreeSet ℕ). contains nat_cmp set other ≡ true) shared has) in
+        (mode ∙ s.0, shared_more adds s.1);
   }
     where
       number : ℕ

@@ -98,6 +98,7 @@ pub record AreFound (found : FoundBlocks) : Type 0 where
   pub small : (i : ℕ) (b : ListBlock) → slice_get found.blocks.items i ≡ Some b → (b.list < BLOCK_STEP) × (b.block < 2 ^ 32)
   pub all : (number : ℕ) → contains nat_cmp found.numbers number ≡ true → IsNumbered found.blocks.items number
   pub most : IsTrue found.for_two → AreForTwo found.blocks.items
+  pub shared : (block : ℕ) → contains nat_cmp found.shared block ≡ true → IsTrue found.for_two × IsShared found.blocks.items block
 
 -- new is old with this block of list l, if it was not taken before
 pub record AddsBlock (for_two : Bool) (l block : ℕ) (old new : List ListBlock) : Type 0 where

@@ -25,6 +25,9 @@ pub(crate) struct FoundBlocks {
     pub(crate) for_two: bool,
     pub(crate) blocks: Vec<ListBlock>,
     pub(crate) numbers: BTreeSet<u64>,
+    /// Blocks that two lists have, of those that were passed over. Where many lists lead to a block, most that is found is
+    /// one of these, and to look for it here costs least.
+    pub(crate) shared: BTreeSet<u64>,
 }
 
 impl FoundBlocks {
@@ -38,6 +41,7 @@ impl FoundBlocks {
             for_two,
             blocks: Vec::new(alloc),
             numbers: BTreeSet::new(alloc),
+            shared: BTreeSet::new(alloc),
         }
     }
 
@@ -59,12 +63,17 @@ impl FoundBlocks {
             (AddsBlock self.old.for_two found.list found.block self.old.blocks.items self.new.blocks.items) }
         ensures found { OnOk result (AreFound self.new) }
     {
+        let block = u64::from(found.block);
+        if self.shared.contains(&block) {
+            return Ok(());
+        }
         let number = found.neighbour_number();
         // Whether it was is asked first, since that costs less than how many lists have it.
         if self.numbers.contains(&number) {
             return Ok(());
         }
         if self.for_two && self.is_shared(found.block) {
+            memory::insert_new(&mut self.shared, block)?;
             return Ok(());
         }
         memory::insert_new(&mut self.numbers, number)?;
