@@ -84,7 +84,8 @@ fn found_blocks(
             return Ok(found);
         };
         add_targets(kept, geometry, turn, &from, &followed, &mut found)?;
-        followed.add(from)?;
+        let other = found.other_list(&from);
+        followed.add(from, other)?;
     }
     // Each of 2^32 - 1 blocks has had its turn, and no memory holds one more.
     memory::count_of(&found.blocks)?;

@@ -1,15 +1,19 @@
 //! Blocks whose pointers were followed.
-ghost use Rattle.std.specs.Prelude.{◌<◌, ◌≤◌, ◌+◌, ◌^◌, ℕ, OnOk};
-ghost use Rattle.list_audit.specs.Following.{AddsFollowed, HasNoneFollowed, IsFollowedAt};
+ghost use Rattle.std.specs.Prelude.{◌≡◌, ◌<◌, ◌≤◌, ◌+◌, ◌^◌, ℕ, Bool, IsTrue, OnOk};
+ghost use Rattle.list_audit.specs.Following.{AddsFollowed, HasNoneFollowed, IsAnother, IsFollowedAt, IsFollowedFor, IsPassedAt};
+ghost use Rattle.list_audit.specs.Numbers.{block_number};
 ghost use Rattle.volume_meaning.specs.declared.blocks.TheConstants.{BLOCK_CELLS};
 
 use crate::between::{first_between, last_between};
 use crate::blocks::BEHIND_POINTERS;
-use crate::listed::ListBlock;
+use crate::listed::{LIST_STEP, ListBlock};
 use cell_types::{NoMemory, memory};
 use std::alloc::Global;
 use std::collections::BTreeSet;
 use volume_meaning::{FIRST_POINTER, POINTER_PLACES};
+
+/// In place of a list, that of a block that was followed for two lists, and so for every list. No list has this number.
+const EVERY_LIST: u32 = 65_536;
 
 /// The numbers of the blocks whose pointers were followed so far, 8 bytes each.
 #[derive(Drop)]
@@ -27,41 +31,92 @@ impl FollowedBlocks {
         }
     }
 
-    /// Adds a block.
-    pub(crate) fn add(&mut self, listed: ListBlock) -> Result<(), NoMemory>
-        ensures { OnOk result (AddsFollowed listed.list listed.block self.old.numbers self.new.numbers) }
+    /// Adds a block. Where it was followed for another list, too, what its pointers lead to is there for two lists, so that
+    /// it is followed for every list.
+    pub(crate) fn add(&mut self, listed: ListBlock, other: Option<u16>) -> Result<(), NoMemory>
+        ensures { OnOk result ((for_two : Bool) → IsAnother for_two listed.list other
+            → AddsFollowed for_two listed.list listed.block self.old.numbers self.new.numbers) }
     {
-        memory::insert_new(&mut self.numbers, listed.number())?;
+        let is_second = self.has_other(listed.block, other);
+        let number = number_of(u32::from(listed.list), listed.block);
+        memory::insert_new(&mut self.numbers, number)?;
+        if !is_second {
+            return Ok(());
+        }
+        memory::insert_new(&mut self.numbers, number_of(EVERY_LIST, listed.block))?;
         Ok(())
     }
 
-    /// The first pointer place of a block that is none of the last one before it of the same list.
+    /// Whether the block was followed for this list, if there is one.
+    fn has_other(&self, block: u32, other: Option<u16>) -> bool
+        ensures { IsTrue result → IsFollowedFor self.now.numbers block other }
+    {
+        let Some(list) = other else {
+            return false;
+        };
+        self.numbers.contains(&number_of(u32::from(list), block))
+    }
+
+    /// The first pointer place of a block that is none of the last one before it of the same list, and of every list.
     pub(crate) fn first_pointer_of(&self, listed: &ListBlock) -> u32
         ensures from { FIRST_POINTER ≤ result }
         ensures passed { (pointer : ℕ) → FIRST_POINTER ≤ pointer → pointer < result
-            → IsFollowedAt self.now.numbers listed.now.list (listed.now.block + pointer) }
+            → IsPassedAt self.now.numbers listed.now.list (listed.now.block + pointer) }
     {
-        let number = listed.number();
+        let own = self.first_behind(u32::from(listed.list), listed.block);
+        let every = self.first_behind(EVERY_LIST, listed.block);
+        own.max(every)
+    }
+
+    /// The place behind the last pointer place of a block that is none of the next one of the same list, and of every list.
+    pub(crate) fn behind_pointers_of(&self, listed: &ListBlock) -> u32
+        requires { listed.now.block + BLOCK_CELLS ≤ 2 ^ 32 }
+        ensures most { result ≤ BEHIND_POINTERS }
+        ensures passed { (pointer : ℕ) → result ≤ pointer → pointer < BEHIND_POINTERS
+            → IsPassedAt self.now.numbers listed.now.list (listed.now.block + pointer) }
+    {
+        let own = self.last_before(u32::from(listed.list), listed.block);
+        let every = self.last_before(EVERY_LIST, listed.block);
+        own.min(every)
+    }
+
+    /// The first pointer place of a block that is none of the last one before it that was followed for this list.
+    fn first_behind(&self, list: u32, block: u32) -> u32
+        requires { list ≤ EVERY_LIST }
+        ensures from { FIRST_POINTER ≤ result }
+        ensures passed { (pointer : ℕ) → FIRST_POINTER ≤ pointer → pointer < result
+            → IsFollowedAt self.now.numbers list (block + pointer) }
+    {
+        let number = number_of(list, block);
         // Two blocks that begin farther apart have no pointer place in common.
-        let reach = u64::from(listed.block.min(POINTER_PLACES - 1));
+        let reach = u64::from(block.min(POINTER_PLACES - 1));
         let Some(before) = last_between(&self.numbers, number - reach, number) else {
             return FIRST_POINTER;
         };
         BEHIND_POINTERS - (number - before) as u32
     }
 
-    /// The place behind the last pointer place of a block that is none of the next one of the same list.
-    pub(crate) fn behind_pointers_of(&self, listed: &ListBlock) -> u32
-        requires { listed.now.block + BLOCK_CELLS ≤ 2 ^ 32 }
+    /// The place behind the last pointer place of a block that is none of the next one that was followed for this list.
+    fn last_before(&self, list: u32, block: u32) -> u32
+        requires room { block + BLOCK_CELLS ≤ 2 ^ 32 }
+        requires list { list ≤ EVERY_LIST }
         ensures most { result ≤ BEHIND_POINTERS }
         ensures passed { (pointer : ℕ) → result ≤ pointer → pointer < BEHIND_POINTERS
-            → IsFollowedAt self.now.numbers listed.now.list (listed.now.block + pointer) }
+            → IsFollowedAt self.now.numbers list (block + pointer) }
     {
-        let next = listed.number() + 1;
+        let next = number_of(list, block) + 1;
         let Some(after) = first_between(&self.numbers, next, next + u64::from(POINTER_PLACES - 1))
         else {
             return BEHIND_POINTERS;
         };
         FIRST_POINTER + 1 + (after - next) as u32
     }
+}
+
+/// The number of a block for a list, which no other block and list have.
+fn number_of(list: u32, block: u32) -> u64
+    requires { list ≤ EVERY_LIST }
+    ensures { result ≡ block_number list block }
+{
+    u64::from(list) * LIST_STEP + u64::from(block)
 }

@@ -1,8 +1,9 @@
 //! Blocks that were found, each once.
 ghost use Rattle.std.specs.Prelude.{◌≡◌, ◌↔◌, IfOk, IsTrue, OnOk, [], length, slice_get};
 ghost use Rattle.list_audit.specs.Blocks.{AddsBlock, AreDecoded, AreFound, AreInOrder, AreSmall, IsShared};
+ghost use Rattle.list_audit.specs.Following.{IsAnother};
 
-use crate::between::has_two_between;
+use crate::between::{first_between, has_two_between};
 use crate::listed::{BLOCK_STEP, ListBlock};
 use cell_types::{NoMemory, memory};
 use log_audit::numbers_of;
@@ -88,6 +89,22 @@ impl FoundBlocks {
     {
         let from = u64::from(block) * BLOCK_STEP;
         has_two_between(&self.numbers, from, from + BLOCK_STEP)
+    }
+
+    /// Where each block is listed for two: another list that has the block of this one, if one was found.
+    pub(crate) fn other_list(&self, listed: &ListBlock) -> Option<u16>
+        ensures { IsAnother self.now.for_two listed.now.list result }
+    {
+        if !self.for_two {
+            return None;
+        }
+        let own = listed.neighbour_number();
+        let from = u64::from(listed.block) * BLOCK_STEP;
+        let number = match first_between(&self.numbers, from, own) {
+            Some(before) => before,
+            None => first_between(&self.numbers, own + 1, from + BLOCK_STEP)?,
+        };
+        Some((number - from) as u16)
     }
 
     /// The blocks by rising numbers.

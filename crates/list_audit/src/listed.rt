@@ -1,6 +1,6 @@
 //! A block of a list.
 ghost use Rattle.std.specs.Prelude.{◌≡◌, ◌<◌, ◌^◌};
-ghost use Rattle.list_audit.specs.Numbers.{block_number, neighbour_number};
+ghost use Rattle.list_audit.specs.Numbers.{neighbour_number};
 
 /// How far the numbers of the blocks of a list lie from those of the next.
 pub(crate) const LIST_STEP: u64 = 4_294_967_296;
@@ -18,15 +18,8 @@ pub struct ListBlock {
 }
 
 impl ListBlock {
-    /// A number that no other block and list have.
-    pub(crate) fn number(&self) -> u64
-        ensures { result ≡ block_number self.now.list self.now.block }
-    {
-        u64::from(self.list) * LIST_STEP + u64::from(self.block)
-    }
-
-    /// Another such number, `BLOCK_STEP` times the block plus the list: those of the lists that have the block are
-    /// neighbours.
+    /// A number that no other block and list have, `BLOCK_STEP` times the block plus the list: those of the lists that have
+    /// the block are neighbours.
     pub(crate) fn neighbour_number(&self) -> u64
         ensures { result ≡ neighbour_number self.now.list self.now.block }
     {
