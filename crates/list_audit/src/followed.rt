@@ -15,6 +15,9 @@ use volume_meaning::{FIRST_POINTER, POINTER_PLACES};
 /// In place of a list, that of a block that was followed for two lists, and so for every list. No list has this number.
 const EVERY_LIST: u32 = 65_536;
 
+/// So many pointer places are sooner followed again than looked for.
+const FEW_PLACES: u32 = 8;
+
 /// The numbers of the blocks whose pointers were followed so far, 8 bytes each.
 #[derive(Drop)]
 pub(crate) struct FollowedBlocks {
@@ -63,8 +66,11 @@ impl FollowedBlocks {
         ensures passed { (pointer : ℕ) → FIRST_POINTER ≤ pointer → pointer < result
             → IsPassedAt self.now.numbers listed.now.list (listed.now.block + pointer) }
     {
-        let own = self.first_behind(u32::from(listed.list), listed.block);
         let every = self.first_behind(EVERY_LIST, listed.block);
+        if BEHIND_POINTERS - FEW_PLACES <= every {
+            return every;
+        }
+        let own = self.first_behind(u32::from(listed.list), listed.block);
         own.max(every)
     }
 
@@ -75,8 +81,11 @@ impl FollowedBlocks {
         ensures passed { (pointer : ℕ) → result ≤ pointer → pointer < BEHIND_POINTERS
             → IsPassedAt self.now.numbers listed.now.list (listed.now.block + pointer) }
     {
-        let own = self.last_before(u32::from(listed.list), listed.block);
         let every = self.last_before(EVERY_LIST, listed.block);
+        if every <= FIRST_POINTER + FEW_PLACES {
+            return every;
+        }
+        let own = self.last_before(u32::from(listed.list), listed.block);
         own.min(every)
     }
 

@@ -3,7 +3,7 @@ ghost use Rattle.std.specs.Prelude.{◌≡◌, ◌↔◌, IfOk, IsTrue, OnOk, []
 ghost use Rattle.list_audit.specs.Blocks.{AddsBlock, AreDecoded, AreFound, AreInOrder, AreSmall, IsShared};
 ghost use Rattle.list_audit.specs.Following.{IsAnother};
 
-use crate::between::{first_between, has_two_between};
+use crate::between::has_two_between;
 use crate::listed::{BLOCK_STEP, ListBlock};
 use cell_types::{NoMemory, memory};
 use log_audit::numbers_of;
@@ -98,13 +98,14 @@ impl FoundBlocks {
         if !self.for_two {
             return None;
         }
-        let own = listed.neighbour_number();
         let from = u64::from(listed.block) * BLOCK_STEP;
-        let number = match first_between(&self.numbers, from, own) {
-            Some(before) => before,
-            None => first_between(&self.numbers, own + 1, from + BLOCK_STEP)?,
-        };
-        Some((number - from) as u16)
+        for number in self.numbers.range(from..from + BLOCK_STEP) {
+            let list = (*number % BLOCK_STEP) as u16;
+            if list != listed.list {
+                return Some(list);
+            }
+        }
+        None
     }
 
     /// The blocks by rising numbers.
