@@ -80,6 +80,11 @@ impl<'a> Lists for TwoLists<'a> {
         }
         Ok(self.of(which).contains(&slot))
     }
+
+    #[tactic(auto, unfolding(zigzag_join::specs::Lists::HasPaid))]
+    fn confirm(&mut self, which: u32, slot: u32) -> Result<bool, Fault> {
+        self.has(which, slot)
+    }
 }
 
 #[test]

@@ -25,14 +25,24 @@ at_index listed i n inside is = get_or_from_slice_get listed i n n (slice_get-ge
 index_at : (listed : List ℕ) (i n : ℕ) → i < length listed → slice_index_or listed i n ≡ n → slice_index listed i ≡ n
 index_at listed i n inside is = get_or_from_slice_get listed i n 0 (slice_get-get_or listed i n inside ∙ ap (λ (m : ℕ). Some m) is)
 
-pub none_decoded : (numbers : List ℕ) {blocks : List ListBlock} → blocks ≡ [] → AreDecoded numbers 0 blocks
-none_decoded numbers none = subst (AreDecoded numbers 0) (sym none) (record {
+-- these are the blocks of the first n numbers
+pub record AreDecodedSoFar (numbers : List ℕ) (n : ℕ) (blocks : List ListBlock) : Type 0 where
+  pub count : length blocks ≡ n
+  pub each : (i : ℕ) (b : ListBlock) → slice_get blocks i ≡ Some b
+      → (slice_index numbers i ≡ neighbour_number b.list b.block) × (b.list < BLOCK_STEP)
+
+pub all_decoded : {numbers : List ℕ} {n : ℕ} {blocks : List ListBlock} → AreDecodedSoFar numbers n blocks → n ≡ length numbers
+    → AreDecoded numbers blocks
+all_decoded so_far all = record { count = so_far.count ∙ all; each = so_far.each }
+
+pub none_decoded : (numbers : List ℕ) {blocks : List ListBlock} → blocks ≡ [] → AreDecodedSoFar numbers 0 blocks
+none_decoded numbers none = subst (AreDecodedSoFar numbers 0) (sym none) (record {
   count = refl;
   each = λ i b there. absurd (omega (arith, slice_get_within [] i b there));
 })
 
-pub one_decoded : {numbers : List ℕ} {n : ℕ} {old new : List ListBlock} (block : ListBlock) → AreDecoded numbers n old → new ≡ old ++ block ∷ []
-    → neighbour_number block.list block.block ≡ slice_index numbers n → block.list < BLOCK_STEP → AreDecoded numbers (n + 1) new
+pub one_decoded : {numbers : List ℕ} {n : ℕ} {old new : List ListBlock} (block : ListBlock) → AreDecodedSoFar numbers n old → new ≡ old ++ block ∷ []
+    → neighbour_number block.list block.block ≡ slice_index numbers n → block.list < BLOCK_STEP → AreDecodedSoFar numbers (n + 1) new
 one_decoded {numbers} {n} {old} {new} block are is number few = record {
   count = omega (arith, ap length is, length_pushed old block, are.count);
   each = λ i b there. ⊎_elim
@@ -51,7 +61,7 @@ are_small {found} listed are same i inside =
     let n = are.all (slice_index listed i) ((same (slice_index listed i)).0 (i, inside, at_index listed i (slice_index listed i) inside refl)) in let small = are.small n.place n.one n.there in
     omega (arith, n.is, small.0, small.1)
 
-module _ {found : FoundBlocks} (are : AreFound found) (listed : List ℕ) (rows : List ListBlock) (decoded : AreDecoded listed (length listed) rows)
+module _ {found : FoundBlocks} (are : AreFound found) (listed : List ℕ) (rows : List ListBlock) (decoded : AreDecoded listed rows)
     (increasing : IsStrictlyIncreasing listed) (same : (x : ℕ) → Contains listed x ↔ (contains nat_cmp found.numbers x ≡ true)) where
   none : ListBlock
   none = record { list = 0; block = 0 }

@@ -110,9 +110,9 @@ pub record AddsBlock (for_two : Bool) (l block : ℕ) (old new : List ListBlock)
 abbrev pub AreSmall : List ℕ → Type 0
 AreSmall numbers = (i : ℕ) → i < length numbers → slice_index numbers i < 2 ^ 48
 
--- these are the blocks of the first n numbers
-pub record AreDecoded (numbers : List ℕ) (n : ℕ) (blocks : List ListBlock) : Type 0 where
-  pub count : length blocks ≡ n
+-- these are the blocks of these numbers
+pub record AreDecoded (numbers : List ℕ) (blocks : List ListBlock) : Type 0 where
+  pub count : length blocks ≡ length numbers
   pub each : (i : ℕ) (b : ListBlock) → slice_get blocks i ≡ Some b
       → (slice_index numbers i ≡ neighbour_number b.list b.block) × (b.list < BLOCK_STEP)
 

@@ -122,7 +122,7 @@ impl FoundBlocks {
 /// The blocks with these numbers.
 fn blocks_of_numbers(alloc: Global, numbers: &[u64]) -> Result<Vec<ListBlock>, NoMemory>
     requires { AreSmall numbers.now }
-    ensures { IfOk result (λ blocks. AreDecoded numbers.now (length numbers.now) blocks.items) }
+    ensures { IfOk result (λ blocks. AreDecoded numbers.now blocks.items) }
 {
     let mut blocks = Vec::new(alloc);
     for number in numbers {

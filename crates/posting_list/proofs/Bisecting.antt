@@ -1,23 +1,21 @@
 -- Bisection finds the tag of a slot that must not be passed.
-use Rattle.std.proofs.Common.{◌≡◌, ◌≢◌, ◌<◌, ◌≤◌, ◌+◌, ◌-◌, ◌*◌, ◌/◌, ◌^◌, ⊎_elim, ℕ, zero, suc, true, false, List, length, Some, None, Ok, Err, refl, ap, sym, arith, ◌∙◌}
+use Rattle.std.proofs.Common.{◌≡◌, ◌≢◌, ◌<◌, ◌≤◌, ◌+◌, ◌-◌, ◌*◌, ◌/◌, ◌^◌, ⊎_elim, ℕ, zero, suc, List, length, Some, None, Ok, Err, refl, ap, sym, arith, ◌∙◌}
 use Rattle.std.specs.Prelude.{IsTrue, slice_get}
 use Rattle.std.proofs.lemmas.Bool.{cases_eq, cases_lt}
 use Rattle.byteorder.specs.Endian.{big_number}
 use Rattle.cell_types.specs.declared.refusal.Fault.{Fault}
 use Rattle.volume_meaning.specs.Blocks.{PostingFields}
-use Rattle.volume_meaning.proofs.Fronts.{front_holds}
 use Rattle.worm_device.specs.Views.{ViewState, Viewed}
 use Rattle.worm_device.proofs.Resting.{viewed_self, viewed_then}
 use Rattle.jump_block.specs.Entries.{posting_of}
 use Rattle.jump_block.specs.declared.held_entry.Entry.{Entry}
 use Rattle.jump_index.specs.Searches.{FindsGeq}
-use Rattle.jump_block.proofs.OneBlock.{leads_wider}
 use Rattle.jump_index.proofs.Telling.{told}
 use Rattle.posting_list.specs.Owing.{IsSlotOwed}
-use Rattle.posting_list.specs.Searches.{HasSlot, Probes, head_of, within}
+use Rattle.posting_list.specs.Searches.{FindsPosting, Probes, head_of, within}
 use Rattle.posting_list.specs.declared.reach.Reach.{Reach}
 use Rattle.posting_list.specs.declared.sought_term.SoughtTerm.{SoughtTerm}
-use Rattle.posting_list.proofs.Evidence.{false_never, find_fault, says_later}
+use Rattle.posting_list.proofs.Evidence.{find_fault, says_later}
 use Rattle.posting_list.proofs.Owed.{OwedTags, ordinal_of, owed_tags, posting_at, posting_key, posting_last, posting_tag}
 
 some_one : (a b : List ℕ) → Some a ≡ Some b → a ≡ b
@@ -38,7 +36,7 @@ pub record HasSoFar (r : Reach) (term : SoughtTerm) (slot : ℕ) (old new : View
 
 module _ (r : Reach) (term : SoughtTerm) (slot : ℕ) (old mid new : ViewState) (viewed : Viewed old mid) where
   pub has_fault : (key : ℕ) (fault : Fault) → Probes r term.list key mid new (Err fault)
-      → HasSlot r term slot old new (Err fault)
+      → FindsPosting r term slot old new (Err fault)
   has_fault key fault probed = record {
     viewed = viewed_then viewed probed.viewed;
     ends = says_later r old mid new viewed probed.viewed fault probed.ends;
@@ -50,17 +48,14 @@ module _ (r : Reach) (term : SoughtTerm) (slot : ℕ) (old mid new : ViewState) 
   module _ (key k : ℕ) (is_key : key ≡ 256 * slot + k) where
     -- nothing stands under the key of this ordinal
     pub none_there : ((o : IsSlotOwed r term old slot) → (t : OwedTags r term o.body) × (k < length t.tags))
-        → Probes r term.list key mid new (Ok None) → HasSlot r term slot old new (Ok false)
+        → Probes r term.list key mid new (Ok None) → FindsPosting r term slot old new (Ok None)
     none_there t_of probed = record {
       viewed = viewed_then viewed probed.viewed;
-      ends = (
-        λ o.
-            let t = t_of o in
-            let h = ordinal_of r term slot old mid viewed o t.0 k t.1 in
-            absurd (probed.ends (now_tells o.tells) h.at (posting_at slot t.0.tags k h.tag) h.trail
-            (posting_key slot t.0.tags k h.tag ∙ sym is_key)),
-        λ f. absurd (false_never f),
-      );
+      ends = λ o.
+          let t = t_of o in
+          let h = ordinal_of r term slot old mid viewed o t.0 k t.1 in
+          probed.ends (now_tells o.tells) h.at (posting_at slot t.0.tags k h.tag) h.trail
+          (posting_key slot t.0.tags k h.tag ∙ sym is_key);
     }
 
     -- what stands there is the posting of this ordinal
@@ -70,7 +65,7 @@ module _ (r : Reach) (term : SoughtTerm) (slot : ℕ) (old mid new : ViewState) 
     one_there e probed o t less =
         let h = ordinal_of r term slot old mid viewed o t k less in
         let p = posting_at slot t.tags k h.tag in
-        let same : p ≡ posting_of e = (probed.ends.1 (now_tells o.tells)).1 h.at p h.trail
+        let same : p ≡ posting_of e = (probed.ends.2 (now_tells o.tells)).1 h.at p h.trail
         (posting_key slot t.tags k h.tag ∙ sym is_key) in (
           sym (ap (λ (q : PostingFields). q.last) same) ∙ posting_last slot t.tags k h.tag,
           h.there ∙ ap (λ (x : List ℕ). Some x)
@@ -79,23 +74,14 @@ module _ (r : Reach) (term : SoughtTerm) (slot : ℕ) (old mid new : ViewState) 
 
     -- the tag stands there
     pub found_there : (e : Entry) → k < 256 → Probes r term.list key mid new (Ok (Some e)) → e.tag ≡ term.tag
-        → HasSlot r term slot old new (Ok true)
+        → FindsPosting r term slot old new (Ok (Some e))
     found_there e small probed same = record {
       viewed = viewed_then viewed probed.viewed;
       ends = (
-        λ owed. refl,
-        λ yes tells.
-            let behind = (probed.ends.1 (now_tells tells)).0 in
-            record {
-              block = e.block;
-              place = e.place;
-              p = posting_of e;
-              leads = leads_wider r.bounds.pool r.bounds.edge (omega arith) (omega arith) behind.leads;
-              in_places = behind.place;
-              holds = front_holds behind.in_front;
-              same_tag = same;
-              same_slot = omega (arith, probed.ends.0, is_key, small);
-            },
+        omega (arith, probed.ends.0, is_key, small),
+        same,
+        probed.ends.1,
+        λ tells. (probed.ends.2 (now_tells tells)).0,
       );
     }
 
@@ -128,12 +114,13 @@ has_first r term slot old new e small probed differ = record {
 
 -- the posting of ordinal 0 has the tag
 pub first_found : (r : Reach) (term : SoughtTerm) (slot : ℕ) (old new : ViewState) (e : Entry)
-    → Probes r term.list (256 * slot) old new (Ok (Some e)) → e.tag ≡ term.tag → HasSlot r term slot old new (Ok true)
+    → Probes r term.list (256 * slot) old new (Ok (Some e)) → e.tag ≡ term.tag
+    → FindsPosting r term slot old new (Ok (Some e))
 first_found r term slot old new e probed same =
     found_there r term slot old old new (viewed_self old) (256 * slot) 0 (omega arith) e (omega arith) probed same
 
 pub first_missing : (r : Reach) (term : SoughtTerm) (slot : ℕ) (old new : ViewState)
-    → Probes r term.list (256 * slot) old new (Ok None) → HasSlot r term slot old new (Ok false)
+    → Probes r term.list (256 * slot) old new (Ok None) → FindsPosting r term slot old new (Ok None)
 first_missing r term slot old new probed =
     none_there r term slot old old new (viewed_self old) (256 * slot) 0 (omega arith)
     (λ o. let t = owed_tags r term old slot o in (t, omega (arith, t.within))) probed
@@ -141,12 +128,12 @@ first_missing r term slot old new probed =
 module _ (r : Reach) (term : SoughtTerm) (slot : ℕ) (old mid new : ViewState) (low high middle : ℕ)
     (so_far : HasSoFar r term slot old mid low high) (from : low ≤ middle) (to : middle < high) where
   pub middle_missing : Probes r term.list (256 * slot + middle) mid new (Ok None)
-      → HasSlot r term slot old new (Ok false)
+      → FindsPosting r term slot old new (Ok None)
   middle_missing probed = none_there r term slot old mid new so_far.viewed (256 * slot + middle) middle refl
       (λ o. let t = so_far.left o in (t.0, omega (arith, t.3, to))) probed
 
   pub middle_found : (e : Entry) → Probes r term.list (256 * slot + middle) mid new (Ok (Some e)) → e.tag ≡ term.tag
-      → HasSlot r term slot old new (Ok true)
+      → FindsPosting r term slot old new (Ok (Some e))
   middle_found e probed same = found_there r term slot old mid new so_far.viewed (256 * slot + middle) middle refl e
       (omega (arith, to, so_far.most)) probed same
 
@@ -204,13 +191,10 @@ module _ (r : Reach) (term : SoughtTerm) (slot : ℕ) (old mid new : ViewState) 
 
 -- no ordinal is left
 pub none_left : (r : Reach) (term : SoughtTerm) (slot : ℕ) (old new : ViewState) (low high : ℕ)
-    → HasSoFar r term slot old new low high → high ≤ low → HasSlot r term slot old new (Ok false)
+    → HasSoFar r term slot old new low high → high ≤ low → FindsPosting r term slot old new (Ok None)
 none_left r term slot old new low high so_far past = record {
   viewed = so_far.viewed;
-  ends = (
-    λ o. let t = so_far.left o in absurd (omega (arith, t.1, t.2, past)),
-    λ f. absurd (false_never f),
-  );
+  ends = λ o. let t = so_far.left o in omega (arith, t.1, t.2, past);
 }
 
 -- Fewer ordinals than two to some power are left, and so many searches more may be made.

@@ -1,10 +1,10 @@
 -- What the searches say, of the lists as the join sees them.
-use Rattle.std.proofs.Common.{◌≡◌, ◌<◌, ◌≤◌, ◌+◌, ◌-◌, ◌*◌, ◌^◌, min, arith, ℕ, Bool, List, Option, Some, None, Result, Ok, Err, ◌∷◌, map, ap, refl, sym, subst, ◌∙◌}
-use Rattle.std.specs.Prelude.{slice_get}
+use Rattle.std.proofs.Common.{◌≡◌, ◌<◌, ◌≤◌, ◌+◌, ◌-◌, ◌*◌, ◌^◌, ◌⊎◌, ⊎_elim, inl, inr, min, arith, ℕ, Bool, List, Option, Some, None, Result, Ok, Err, ◌∷◌, map, ap, refl, sym, subst, ◌∙◌}
+use Rattle.std.specs.Prelude.{IsTrue, is_some, slice_get}
 use Rattle.cell_types.specs.declared.refusal.Fault.{Fault}
 use Rattle.cell_types.specs.declared.refusal.Fault.TheVariants.{Tampered, Failed}
 use Rattle.worm_device.specs.Views.{ViewState, Viewed}
-use Rattle.zigzag_join.specs.Lists.{ListsFaultEnds, HasEnds, Keeps, KnowsNext, KnowsOn, LandEnds}
+use Rattle.zigzag_join.specs.Lists.{ConfirmEnds, ListsFaultEnds, HasEnds, Keeps, KnowsNext, LandEnds}
 use Rattle.jump_index.proofs.Telling.{told, told_before}
 use Rattle.cell_types.specs.Image.{Image}
 use Rattle.cell_types.specs.Layout.{Layout}
@@ -14,8 +14,8 @@ use Rattle.document_store.proofs.Holding.{part_on}
 use Rattle.tamper_rules.proofs.Images.{same_image}
 use Rattle.worm_device.proofs.Resting.{rests_of}
 use Rattle.posting_list.specs.Naming.{FaultSays}
-use Rattle.posting_list.specs.Owing.{HasPosting, IsSlotOwed, Owes}
-use Rattle.posting_list.specs.Searches.{HasSlot, NextSlot}
+use Rattle.posting_list.specs.Owing.{HasPosting, IsLiveSlot, IsSlotOwed, Owes}
+use Rattle.posting_list.specs.Searches.{ConfirmsSlot, HasSlot, IsLandedPart, IsLookedAt, NextSlot}
 use Rattle.posting_list.specs.States.{KnowsPart, counted_lists, row_of, term_row}
 use Rattle.posting_list.specs.Terms.{TermEnds}
 use Rattle.posting_list.specs.declared.next_slot.Landed.{Landed}
@@ -24,6 +24,7 @@ use Rattle.posting_list.specs.declared.sought_term.SoughtTerm.{SoughtTerm}
 use Rattle.zigzag_join.proofs.Joining.{paid_since}
 use Rattle.posting_list.specs.declared.has_slot.TheConstants.{HAS_READS}
 use Rattle.posting_list.specs.declared.next_slot.TheConstants.{NEXT_READS}
+use Rattle.posting_list.proofs.Evidence.{false_never}
 use Rattle.posting_list.proofs.Owed.{live_on, owed_on, vouched_on}
 
 one_term : (terms : List SoughtTerm) (which : ℕ) (a b : SoughtTerm) → slice_get terms which ≡ Some a
@@ -46,6 +47,17 @@ has_on g s t viewed part has = record {
   stated = has.stated;
   is = λ tells. part_on viewed.image (has.is (told_before viewed tells));
 }
+
+-- the slot was looked at, and this is its part
+abbrev pub IsLooked : Reach → ViewState → ℕ → Option Part → Type 0
+IsLooked r s slot found = (part : Part) × (found ≡ Some part) × IsLookedAt r s slot part
+
+-- a slot that a list vouches for, or always looks at, was looked at
+looked_part : (r : Reach) (always : Bool) (s : ViewState) (slot : ℕ) (vouched : Bool) (found : Option Part)
+    → IsLandedPart r always s slot vouched found → (IsTrue vouched) ⊎ (IsTrue always) → IsLooked r s slot found
+looked_part r always s slot vouched (Some part) looked either = (part, refl, looked)
+looked_part r always s slot vouched None none either =
+    absurd (⊎_elim (λ (yes : IsTrue vouched). none.0 yes) (λ (yes : IsTrue always). none.1 yes) either)
 
 module _ (r : Reach) (terms : List SoughtTerm) (loan : ℕ) (s t : ViewState) (n h i j : ℕ) where
   -- what every row of reads keeps that the asks have paid for
@@ -106,27 +118,29 @@ module _ (r : Reach) (terms : List SoughtTerm) (loan : ℕ) (s t : ViewState) (n
     owed_here slot o =
         subst (λ (x : SoughtTerm). IsSlotOwed r x s slot) (one_term terms which o.term term o.there there) o.owed
 
-    pub land_some : (from : ℕ) (landed : Landed) → NextSlot r term from s t (Ok (Some landed))
+    pub land_some : (from : ℕ) (always : Bool) (landed : Landed) → NextSlot r term from always s t (Ok (Some landed))
         → LandEnds which from (counted_lists r terms loan s n h) (counted_lists r terms loan t i j)
-        (Ok (Some (record { slot = landed.part.slot; vouched = landed.vouched })))
-    land_some from landed next = (
+        (Ok (Some (record { slot = landed.slot; vouched = landed.vouched })))
+    land_some from always landed next = (
       (
         next.ends.0,
         next.ends.1,
-        λ tells. (term, there, next.ends.5 (told_before next.viewed tells)),
-        λ slot o past. next.ends.4 slot (owed_here slot o) past,
-        (next.ends.7, λ tells. next.ends.3 (told_before next.viewed tells)),
+        λ tells. (term, there, next.ends.3 (told_before next.viewed tells)),
+        λ slot o past. next.ends.2 slot (owed_here slot o) past,
       ),
-      λ yes tells. (term, there, next.ends.6 yes (told_before next.viewed tells)),
+      λ yes. (
+        λ tells. (term, there, next.ends.4 yes (told_before next.viewed tells)),
+        (looked_part r always t landed.slot landed.vouched landed.part next.ends.5 (inl yes)).2.live,
+      ),
     )
 
-    pub land_none : (from : ℕ) → NextSlot r term from s t (Ok None)
+    pub land_none : (from : ℕ) (always : Bool) → NextSlot r term from always s t (Ok None)
         → LandEnds which from (counted_lists r terms loan s n h) (counted_lists r terms loan t i j) (Ok None)
-    land_none from next = λ slot o past. next.ends slot (owed_here slot o) past
+    land_none from always next = λ slot o past. next.ends slot (owed_here slot o) past
 
-    pub land_fails : (from : ℕ) (fault : Fault) → NextSlot r term from s t (Err fault)
+    pub land_fails : (from : ℕ) (always : Bool) (fault : Fault) → NextSlot r term from always s t (Err fault)
         → LandEnds which from (counted_lists r terms loan s n h) (counted_lists r terms loan t i j) (Err fault)
-    land_fails from fault next = fault_ends fault next.ends
+    land_fails from always fault next = fault_ends fault next.ends
 
     pub has_ends : (slot : ℕ) (result : Result Bool Fault) → HasSlot r term slot s t result
         → HasEnds which slot (counted_lists r terms loan s n h) (counted_lists r terms loan t i j) result
@@ -136,21 +150,52 @@ module _ (r : Reach) (terms : List SoughtTerm) (loan : ℕ) (s t : ViewState) (n
     )
     has_ends slot (Err fault) has = fault_ends fault has.ends
 
--- what is known of a slot is known later
-pub knows_on : (r : Reach) (s t : ViewState) (last : Option Part) → Viewed s t
-    → KnowsOn (KnowsPart r s last) (KnowsPart r t last)
-knows_on r s t last viewed = λ slot known. record {
-  part = known.part;
-  is = known.is;
-  slot_is = known.slot_is;
-  has = has_on r.volume.geometry s t viewed known.part known.has;
-}
+    pub confirm_ends : (slot : ℕ) (found : Option Part) → ConfirmsSlot r term slot s t (Ok found)
+        → ConfirmEnds which slot (counted_lists r terms loan s n h) (counted_lists r terms loan t i j)
+        (Ok (is_some found))
+    confirm_ends slot (Some part) confirms = (
+      λ o. refl,
+      λ yes. (
+        λ tells. (term, there, confirms.ends.0 (told_before confirms.viewed tells)),
+        confirms.ends.1.live,
+      ),
+    )
+    confirm_ends slot None confirms = (
+      λ o. absurd (confirms.ends (owed_here slot o)),
+      λ yes. absurd (false_never yes),
+    )
 
--- and it is known of the slot that a list comes to
-pub knows_landed : (r : Reach) (term : SoughtTerm) (from : ℕ) (s t : ViewState) (landed : Landed)
-    → NextSlot r term from s t (Ok (Some landed)) → KnowsPart r t (Some landed.part) landed.part.slot
-knows_landed r term from s t landed next =
-    record { part = landed.part; is = refl; slot_is = refl; has = next.ends.8 }
+    pub confirm_fails : (slot : ℕ) (fault : Fault) → ConfirmsSlot r term slot s t (Err fault)
+        → ConfirmEnds which slot (counted_lists r terms loan s n h) (counted_lists r terms loan t i j) (Err fault)
+    confirm_fails slot fault confirms = fault_ends fault confirms.ends
+
+-- of a slot that was looked at it is known where its document lies
+known_part : (r : Reach) (s : ViewState) (slot : ℕ) (last : Option Part) → IsLooked r s slot last
+    → KnowsPart r s last slot
+known_part r s slot last looked =
+    record { part = looked.0; is = looked.1; slot_is = looked.2.same; has = looked.2.has }
+
+-- so of one that a list comes to, where it vouches for it
+pub knows_landed : (r : Reach) (term : SoughtTerm) (from : ℕ) (always : Bool) (s t : ViewState) (landed : Landed)
+    → NextSlot r term from always s t (Ok (Some landed)) → IsTrue landed.vouched
+    → KnowsPart r t landed.part landed.slot
+knows_landed r term from always s t landed next vouches = known_part r t landed.slot landed.part
+    (looked_part r always t landed.slot landed.vouched landed.part next.ends.5 (inl vouches))
+
+-- or always looks at it
+pub knows_always : (r : Reach) (term : SoughtTerm) (from : ℕ) (always : Bool) (s t : ViewState) (landed : Landed)
+    → NextSlot r term from always s t (Ok (Some landed)) → IsTrue always
+    → IsLiveSlot r t landed.slot × KnowsPart r t landed.part landed.slot
+knows_always r term from always s t landed next looks =
+    let looked = looked_part r always t landed.slot landed.vouched landed.part next.ends.5 (inr looks) in
+    (looked.2.live, known_part r t landed.slot landed.part looked)
+
+-- and of one that a list confirms
+pub knows_confirmed : (r : Reach) (term : SoughtTerm) (slot : ℕ) (s t : ViewState) (found : Option Part)
+    → ConfirmsSlot r term slot s t (Ok found) → IsTrue (is_some found) → KnowsPart r t found slot
+knows_confirmed r term slot s t (Some part) confirms there =
+    known_part r t slot (Some part) (part, refl, confirms.ends.1)
+knows_confirmed r term slot s t None confirms there = absurd (false_never there)
 
 -- of the slot that is answered that is known
 pub knows_of : (knows : ℕ → Type 0) (answer : Option ℕ) (slot : ℕ) → answer ≡ Some slot

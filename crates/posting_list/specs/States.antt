@@ -1,9 +1,11 @@
 -- Lists of terms as the join sees them.
-use Rattle.std.specs.Prelude.{◌≡◌, ℕ, List, [], ◌∷◌, length, map, Option, Some}
+use Rattle.std.specs.Prelude.{◌≡◌, ℕ, Bool, List, [], ◌∷◌, length, map, Option, Some, None, Result, Ok, Err, IsTrue, ⊤}
+use Rattle.cell_types.specs.declared.refusal.Fault.{Fault}
 use Rattle.worm_device.specs.Views.{ViewState}
 use Rattle.document_store.specs.Looks.{HasPart}
 use Rattle.document_store.specs.declared.part.Part.{Part}
 use Rattle.zigzag_join.specs.Lists.{ListsState}
+use Rattle.zigzag_join.specs.declared.lists.Landing.{Landing}
 use Rattle.posting_list.specs.Naming.{MayName, ShowsListEvidence}
 use Rattle.posting_list.specs.Owing.{IsLiveSlot, Lands, Owes, Vouches}
 use Rattle.posting_list.specs.declared.reach.Reach.{Reach}
@@ -50,3 +52,10 @@ pub record KnowsPart (r : Reach) (s : ViewState) (last : Option Part) (slot : �
   pub is : last ≡ Some part
   pub slot_is : part.slot ≡ slot
   pub has : HasPart r.volume.geometry s part
+
+-- where a list always looks at the slot that it comes to, the slot is live, and it is known where its document lies
+abbrev pub LooksAlways : Bool → Reach → ViewState → Option Part → Result (Option Landing) Fault → Type 0
+LooksAlways always r s last (Ok (Some landing)) =
+    IsTrue always → IsLiveSlot r s landing.slot × KnowsPart r s last landing.slot
+LooksAlways always r s last (Ok None) = ⊤
+LooksAlways always r s last (Err fault) = ⊤

@@ -1,7 +1,7 @@
 //! The lists of terms, as the join asks them.
 ghost use Rattle.std.specs.Prelude.{◌≡◌, ◌++◌, ◌∷◌, [], IfOk};
 
-use crate::own_search::{next_of_own, own_has};
+use crate::own_search::{next_of_own, own_confirm, own_has};
 use crate::term_lists::SEARCHES;
 use crate::{SoughtTerm, TermLists};
 use cell_types::{Fault, MAX_SLOTS, NoMemory, Refusal, memory};
@@ -15,7 +15,7 @@ impl<'a, V: View> TermLists<'a, V> {
     ghost use Rattle.cell_types.specs.declared.geometry.TheConstants.{MAX_SLOTS};
     ghost use Rattle.worm_device.specs.Views.{Viewed};
     ghost use Rattle.zigzag_join.specs.Counts.{GatherCosts};
-    ghost use Rattle.zigzag_join.specs.Lists.{Keeps};
+    ghost use Rattle.zigzag_join.specs.Lists.{AsksNext, Keeps, KnowsLanding, LandEnds};
     ghost use Rattle.posting_list.specs.Joins.{
       GatherPartsEnds,
       TermsCost,
@@ -25,14 +25,15 @@ impl<'a, V: View> TermLists<'a, V> {
       TermsJoin,
     };
     ghost use Rattle.posting_list.specs.Over.{lists_of};
+    ghost use Rattle.posting_list.specs.States.{KnowsPart, LooksAlways};
     ghost use Rattle.posting_list.specs.Terms.{TermEnds};
 
     /// The next slot at or past one that all of the terms have, `None` where there is none. The view is read alone.
     ///
     /// # Errors
     ///
-    /// `Tampered` where a block is out of order (rules 8 and 10), a posting's slot is not done or lies at or past the
-    /// horizon (rule 9), or a slot's cells are no state (rules 1 to 3); `Failed`.
+    /// `Tampered` where a block is out of order (rules 8 and 10), the slot of a term's posting is not done or lies at or
+    /// past the horizon (rule 9), or its cells are no state (rules 1 to 3); `Failed`.
     pub fn next_common(&mut self, from: u32) -> Result<Option<u32>, Fault>
         requires some { 1 ≤ length self.old.sought.now.terms.items }
         requires from { from ≤ MAX_SLOTS }
@@ -90,6 +91,43 @@ impl<'a, V: View> TermLists<'a, V> {
         Ok(parts)
     }
 
+    /// A slot of a list at or past one. It is looked at where the list vouches for it, or `always` is set.
+    fn come_to(&mut self, which: u32, from: u32, always: bool) -> Result<Option<Landing>, Fault>
+        requires from { from ≤ MAX_SLOTS }
+        ensures kept { Keeps (lists_of self.old) (lists_of self.new) }
+        ensures asks { AsksNext (lists_of self.old) (lists_of self.new) }
+        ensures knows { KnowsLanding (KnowsPart self.new.reach (V.seen self.new.view.now) self.new.last) result }
+        ensures ends { LandEnds which from (lists_of self.old) (lists_of self.new) result }
+        ensures always { LooksAlways always self.new.reach (V.seen self.new.view.now) self.new.last result }
+    {
+        self.next_asks = self.next_asks.saturating_add(1);
+        if from >= MAX_SLOTS {
+            return Ok(None);
+        }
+        let Some(term) = self.term(which) else {
+            return Ok(None);
+        };
+        let reach = self.reach;
+        let own = which as usize % SEARCHES;
+        let found = next_of_own(
+            &mut *self.view,
+            &mut self.searches,
+            own,
+            &reach,
+            &term,
+            from,
+            always,
+        )?;
+        let Some(landed) = found else {
+            return Ok(None);
+        };
+        self.last = landed.part;
+        Ok(Some(Landing {
+            slot: landed.slot,
+            vouched: landed.vouched,
+        }))
+    }
+
     /// The term of a number, where the volume has its list, and as many cells as the view. Where it does not, nothing
     /// of the volume stands here.
     fn term(&self, which: u32) -> Option<SoughtTerm>
@@ -122,38 +160,14 @@ impl<'a, V: View> Lists for TermLists<'a, V> {
     }
 
     fn next(&mut self, which: u32, from: u32) -> Result<Option<u32>, Fault> {
-        let Some(landing) = self.land(which, from)? else {
+        let Some(landing) = self.come_to(which, from, true)? else {
             return Ok(None);
         };
         Ok(Some(landing.slot))
     }
 
     fn land(&mut self, which: u32, from: u32) -> Result<Option<Landing>, Fault> {
-        self.next_asks = self.next_asks.saturating_add(1);
-        if from >= MAX_SLOTS {
-            return Ok(None);
-        }
-        let Some(term) = self.term(which) else {
-            return Ok(None);
-        };
-        let reach = self.reach;
-        let own = which as usize % SEARCHES;
-        let found = next_of_own(
-            &mut *self.view,
-            &mut self.searches,
-            own,
-            &reach,
-            &term,
-            from,
-        )?;
-        let Some(landed) = found else {
-            return Ok(None);
-        };
-        self.last = Some(landed.part);
-        Ok(Some(Landing {
-            slot: landed.part.slot,
-            vouched: landed.vouched,
-        }))
+        self.come_to(which, from, false)
     }
 
     fn has(&mut self, which: u32, slot: u32) -> Result<bool, Fault> {
@@ -171,6 +185,25 @@ impl<'a, V: View> Lists for TermLists<'a, V> {
             &term,
             slot,
         )
+    }
+
+    fn confirm(&mut self, which: u32, slot: u32) -> Result<bool, Fault> {
+        self.has_asks = self.has_asks.saturating_add(1);
+        let Some(term) = self.term(which) else {
+            return Ok(false);
+        };
+        let reach = self.reach;
+        let own = which as usize % SEARCHES;
+        let found = own_confirm(
+            &mut *self.view,
+            &mut self.searches,
+            own,
+            &reach,
+            &term,
+            slot,
+        )?;
+        self.last = found;
+        Ok(found.is_some())
     }
 }
 

@@ -18,7 +18,7 @@ pub struct TermLists<'a, V: View> {
     pub sought: &'a SoughtTerms,
     pub reach: Reach,
     pub(crate) searches: [KeptSearch; SEARCHES],
-    /// The document's part of the slot that a list has come to last.
+    /// The document's part of the slot that a list has looked at last.
     pub(crate) last: Option<Part>,
     /// How often a list was asked for its next slot.
     pub next_asks: u64,

@@ -67,7 +67,7 @@ bound : (old settled mid new t m cells : ℕ) → settled ≤ old + 64 → mid �
 bound old settled mid new t m cells first gathered last =
     omega (arith, first, gathered, last, opened t m, more t m)
   where
-    opened : (t m : ℕ) → t * (4100 * (2 * m + 1) + 36864 * m) ≡ 45064 * (t * m) + 4100 * t
+    opened : (t m : ℕ) → t * (4100 * (2 * m + 1) + 36868 * m) ≡ 45068 * (t * m) + 4100 * t
     opened t m = grind arith
 
     more : (t m : ℕ) → t * (m + 1) ≡ t * m + t

@@ -86,34 +86,32 @@ pub number_read : {marks : List Bool} {behind : List ℕ} → AreBehindLast mark
 number_read {marks} {behind} are n last low is =
     subst (IsBehindLast marks n) (sym (get_or_read behind n last (omega (arith, low, are.count)) is 0)) (are.each n low)
 
-module _ {ways : List Way} {n : ℕ} {marks beneath : List Bool} (so_far : AreMarkedUnder ways n marks beneath) {way : Way} (there : slice_get ways n ≡ Some way)
-    (inside : way.target < length beneath) {behind : ℕ} (last : IsBehindLast marks way.behind behind) where
-  more : (place : ℕ) → IsLedTo ways n marks place → IsLedTo ways (n + 1) marks place
-  more place l = record {
-    index = l.index;
-    before = omega (arith, l.before);
-    way = l.way;
-    there = l.there;
-    leads = l.leads;
-    above = l.above;
-    begins = l.begins;
-    marked = l.marked;
-  }
+-- one of the first n ways leads to this place from a marked one
+pub record IsLedSoFar (ways : List Way) (n : ℕ) (marks : List Bool) (place : ℕ) : Type 0 where
+  pub led : IsLedTo ways marks place
+  pub before : led.index < n
 
-  fewer : (place : ℕ) (l : IsLedTo ways (n + 1) marks place) → l.index < n → IsLedTo ways n marks place
-  fewer place l less = record {
-    index = l.index;
-    before = less;
-    way = l.way;
-    there = l.there;
-    leads = l.leads;
-    above = l.above;
-    begins = l.begins;
-    marked = l.marked;
-  }
+-- the places that are marked under these are just those
+pub record AreMarkedSoFar (ways : List Way) (n : ℕ) (marks under : List Bool) : Type 0 where
+  pub count : length under ≡ length marks
+  pub each : (place : ℕ) → IsMarked under place ↔ IsLedSoFar ways n marks place
+
+pub all_marked : {ways : List Way} {n : ℕ} {marks under : List Bool} → AreMarkedSoFar ways n marks under → length ways ≤ n → AreMarkedUnder ways marks under
+all_marked {ways} so_far most = record {
+  count = so_far.count;
+  each = λ place. (
+    λ h. ((so_far.each place).0 h).led,
+    λ l. (so_far.each place).1 (record { led = l; before = omega (arith, slice_get_within ways l.index l.way l.there, most) }),
+  );
+}
+
+module _ {ways : List Way} {n : ℕ} {marks beneath : List Bool} (so_far : AreMarkedSoFar ways n marks beneath) {way : Way} (there : slice_get ways n ≡ Some way)
+    (inside : way.target < length beneath) {behind : ℕ} (last : IsBehindLast marks way.behind behind) where
+  more : (place : ℕ) → IsLedSoFar ways n marks place → IsLedSoFar ways (n + 1) marks place
+  more place l = record { led = l.led; before = omega (arith, l.before) }
 
   -- the way of this turn
-  this : (place : ℕ) (l : IsLedTo ways (n + 1) marks place) → l.index ≡ n → way ≡ l.way
+  this : (place : ℕ) (l : IsLedTo ways marks place) → l.index ≡ n → way ≡ l.way
   this place l same = let both : Some way ≡ Some l.way = sym there ∙ subst (λ (k : ℕ). slice_get ways k ≡ Some l.way) same l.there in cc
 
   put_same : IsMarked (set beneath way.target true) way.target
@@ -123,48 +121,57 @@ module _ {ways : List Way} {n : ℕ} {marks beneath : List Bool} (so_far : AreMa
   put_other place other = get_or-set_other beneath way.target place true false other
 
   -- one way more, by which a marked place leads on, or none does
-  pub leads_on : way.first < behind → AreMarkedUnder ways (n + 1) marks (set beneath way.target true)
+  pub leads_on : way.first < behind → AreMarkedSoFar ways (n + 1) marks (set beneath way.target true)
   leads_on less = record {
     count = length-set beneath way.target true ∙ so_far.count;
     each = λ place. ⊎_elim
         (λ (same : place ≡ way.target). (
           λ h. record {
-            index = n;
+            led = record {
+              index = n;
+              way = way;
+              there = there;
+              leads = sym same;
+              above = behind - 1;
+              begins = (omega (arith, less), omega (arith, less, last.inside));
+              marked = last.last (behind - 1) (omega (arith, less));
+            };
             before = omega arith;
-            way = way;
-            there = there;
-            leads = sym same;
-            above = behind - 1;
-            begins = (omega (arith, less), omega (arith, less, last.inside));
-            marked = last.last (behind - 1) (omega (arith, less));
           },
           λ l. subst (IsMarked (set beneath way.target true)) (sym same) put_same,
         ))
         (λ (other : place ≡ way.target → ⊥). (
           λ h. more place ((so_far.each place).0 (sym (put_other place other) ∙ h)),
-          λ l. put_other place other ∙ (so_far.each place).1 (fewer place l (⊎_elim
-              (λ (before : l.index < n). before)
-              (λ (same : l.index ≡ n). absurd (other (sym l.leads ∙ sym (ap (λ (w : Way). w.target) (this place l same)))))
-              (below_or_at l.index n l.before))),
+          λ l. put_other place other ∙ (so_far.each place).1 (record {
+            led = l.led;
+            before = ⊎_elim
+                (λ (before : l.led.index < n). before)
+                (λ (same : l.led.index ≡ n). absurd (other (sym l.led.leads ∙ sym (ap (λ (w : Way). w.target) (this place l.led same)))))
+                (below_or_at l.led.index n l.before);
+          }),
         ))
         (cases_eq place way.target);
   }
 
-  pub leads_nowhere : behind ≤ way.first → AreMarkedUnder ways (n + 1) marks beneath
+  pub leads_nowhere : behind ≤ way.first → AreMarkedSoFar ways (n + 1) marks beneath
   leads_nowhere more_first = record {
     count = so_far.count;
     each = λ place. (
       λ h. more place ((so_far.each place).0 h),
-      λ l. (so_far.each place).1 (fewer place l (⊎_elim
-          (λ (before : l.index < n). before)
-          (λ (same : l.index ≡ n). let e = this place l same in
-          absurd (last.none l.above (omega (arith, more_first, l.begins.0, ap (λ (w : Way). w.first) e)) (omega (arith, l.begins.1, ap (λ (w : Way). w.behind) e)) l.marked))
-          (below_or_at l.index n l.before))),
+      λ l. (so_far.each place).1 (record {
+        led = l.led;
+        before = ⊎_elim
+            (λ (before : l.led.index < n). before)
+            (λ (same : l.led.index ≡ n). let e = this place l.led same in
+            absurd (last.none l.led.above (omega (arith, more_first, l.led.begins.0, ap (λ (w : Way). w.first) e))
+            (omega (arith, l.led.begins.1, ap (λ (w : Way). w.behind) e)) l.led.marked))
+            (below_or_at l.led.index n l.before);
+      }),
     );
   }
 
 -- no way yet
-pub none_led : (ways : List Way) (marks beneath : List Bool) → beneath ≡ replicate (length marks) false → AreMarkedUnder ways 0 marks beneath
+pub none_led : (ways : List Way) (marks beneath : List Bool) → beneath ≡ replicate (length marks) false → AreMarkedSoFar ways 0 marks beneath
 none_led ways marks beneath is = record {
   count = ap length is ∙ length-replicate (length marks) false;
   each = λ place. (
@@ -179,16 +186,16 @@ none_led ways marks beneath is = record {
     unmarked (suc n) (suc place) h = unmarked n place h
 
 -- the ways begin and end among the nodes
-pub ways_among : {nodes leads : List ℕ} {ways : List Way} (n count : ℕ) → AreWays nodes leads n ways → count ≡ length nodes → AreAmong ways count
-ways_among n count are same k way there =
+pub ways_among : {nodes leads : List ℕ} {ways : List Way} (count : ℕ) → AreWays nodes leads ways → count ≡ length nodes → AreAmong ways count
+ways_among count are same k way there =
     let a = are.each k way there in
     (omega (arith, a.is.inside, same), omega (arith, slice_get_within _ way.target _ a.is.target, same))
 
 module _ {g : Layout} {image : Image} {nodes leads : List ℕ} {ways : List Way} (layout : IsLayout g) (all : AreAll (IsSomeNode g image) nodes)
-    (cells : AreAll (IsLeadAmong g image nodes (length nodes)) leads) (are : AreWays nodes leads (length leads) ways) {level : ℕ} {marks lower_marks : List Bool}
-    (here : AreMarked g image level nodes marks) (below : AreMarkedUnder ways (length ways) marks lower_marks) (deep : level < 63) where
+    (cells : AreAll (IsLeadAmong g image nodes (length nodes)) leads) (are : AreWays nodes leads ways) {level : ℕ} {marks lower_marks : List Bool}
+    (here : AreMarked g image level nodes marks) (below : AreMarkedUnder ways marks lower_marks) (deep : level < 63) where
   -- a place to which a way leads from a node of the level is that of a node below it
-  led_down : (place node : ℕ) → slice_get nodes place ≡ Some node → IsLedTo ways (length ways) marks place → IsNode g image (level + 1) node
+  led_down : (place node : ℕ) → slice_get nodes place ≡ Some node → IsLedTo ways marks place → IsNode g image (level + 1) node
   led_down place node there l =
       let way = are.each l.index l.way l.there in
       let lead = (cells.each way.lead).0 (has_item leads way.place way.lead way.there) in
@@ -213,7 +220,7 @@ module _ {g : Layout} {image : Image} {nodes leads : List ℕ} {ways : List Way}
       (omega (arith, cell.leads.from, target)) (omega (arith, cell.leads.to, target))
 
   -- and each node below the level has such a place
-  leads_down : (place node : ℕ) → slice_get nodes place ≡ Some node → IsNode g image (level + 1) node → IsLedTo ways (length ways) marks place
+  leads_down : (place node : ℕ) → slice_get nodes place ≡ Some node → IsNode g image (level + 1) node → IsLedTo ways marks place
   leads_down place node there (root _ _ zero_level is) = absurd (omega (arith, zero_level))
   leads_down place node there (under _ _ v above x next rest low levels child from to) =
       let level_is : v ≡ level = omega (arith, next) in
@@ -241,11 +248,10 @@ module _ {g : Layout} {image : Image} {nodes leads : List ℕ} {ways : List Way}
       let small : above + (16 + x) < 4294967296 = omega (arith, inside, low, layout.cells) in
       let ends : number / 4294967296 ≡ node = omega (arith, small) in
       let begins : number % 4294967296 ≡ above + (16 + x) = omega (arith, small) in
-      let way = are.all k.0 number k.1 number_there (subst (Contains nodes) (sym ends) (has_item nodes place node there)) in
+      let way = are.all k.0 number number_there (subst (Contains nodes) (sym ends) (has_item nodes place node there)) in
       let ends_there : slice_get nodes way.way.target ≡ Some node = subst (λ (t : ℕ). slice_get nodes way.way.target ≡ Some t) ends way.is.target in
       record {
         index = way.place;
-        before = slice_get_within ways way.place way.way way.there;
         way = way.way;
         there = way.there;
         leads = one_place nodes {a = way.way.target} {b = place} all.rising ends_there there;

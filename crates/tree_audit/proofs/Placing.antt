@@ -9,7 +9,7 @@ use Rattle.std.proofs.lemmas.List.Sorted.{searched}
 use Rattle.std.proofs.lemmas.Option.{get_or_from_slice_get, same_Some, slice_get_within}
 use Rattle.log_audit.proofs.OneMore.{below_or_at, get_before, get_last, get_pushed}
 use Rattle.tree_audit.specs.ChildCells.{IsChildPlace}
-use Rattle.tree_audit.specs.Ways.{AreLower, AreWays, BeginsAt, HasWay, IsWayOf}
+use Rattle.tree_audit.specs.Ways.{AreLower, AreWays, BeginsAt, HasWay, IsWayAmong, IsWayOf}
 use Rattle.tree_audit.specs.declared.child_cells.TheConstants.{TARGET_STEP}
 use Rattle.tree_audit.specs.declared.ways.Way.{Way}
 use Rattle.tree_audit.proofs.Closing.{same_default}
@@ -109,16 +109,27 @@ begins_at {numbers} cell {first} {behind} low high place node there target =
       ),
     )
 
+-- the ways are those of these child cells, and each of the first n that leads to one of the nodes has its own
+pub record AreWaysSoFar (nodes leads : List ℕ) (n : ℕ) (ways : List Way) : Type 0 where
+  pub each : (k : ℕ) (way : Way) → slice_get ways k ≡ Some way → IsWayAmong nodes leads way
+  pub all : (k lead : ℕ) → k < n → slice_get leads k ≡ Some lead → Contains nodes (lead / TARGET_STEP) → HasWay nodes ways lead
+
+pub all_ways : {nodes leads : List ℕ} {n : ℕ} {ways : List Way} → AreWaysSoFar nodes leads n ways → length leads ≤ n → AreWays nodes leads ways
+all_ways {nodes} {leads} so_far most = record {
+  each = so_far.each;
+  all = λ k lead there has. so_far.all k lead (omega (arith, slice_get_within leads k lead there, most)) there has;
+}
+
 -- no way yet
-pub no_ways : (nodes leads : List ℕ) (ways : List Way) → ways ≡ [] → AreWays nodes leads 0 ways
+pub no_ways : (nodes leads : List ℕ) (ways : List Way) → ways ≡ [] → AreWaysSoFar nodes leads 0 ways
 no_ways nodes leads ways empty = record {
   each = λ k way there. absurd (omega (arith, slice_get_within ways k way there, ap length empty));
   all = λ k lead less. absurd (omega (arith, less));
 }
 
-module _ {nodes leads : List ℕ} {n : ℕ} {ways : List Way} (so_far : AreWays nodes leads n ways) (lead : ℕ) (there : slice_get leads n ≡ Some lead) where
+module _ {nodes leads : List ℕ} {n : ℕ} {ways : List Way} (so_far : AreWaysSoFar nodes leads n ways) (lead : ℕ) (there : slice_get leads n ≡ Some lead) where
   -- a child cell that leads to none of the nodes
-  pub way_to_none : (Contains nodes (lead / TARGET_STEP) → ⊥) → AreWays nodes leads (n + 1) ways
+  pub way_to_none : (Contains nodes (lead / TARGET_STEP) → ⊥) → AreWaysSoFar nodes leads (n + 1) ways
   way_to_none none = record {
     each = so_far.each;
     all = λ k other less here has. ⊎_elim
@@ -131,7 +142,7 @@ module _ {nodes leads : List ℕ} {n : ℕ} {ways : List Way} (so_far : AreWays 
       this k other here same = same_Some other lead (sym (subst (λ (i : ℕ). slice_get leads i ≡ Some other) same here) ∙ there)
 
   -- and one that leads to one
-  pub one_way : {way : Way} {after : List Way} → IsWayOf nodes lead way → after ≡ ways ++ way ∷ [] → AreWays nodes leads (n + 1) after
+  pub one_way : {way : Way} {after : List Way} → IsWayOf nodes lead way → after ≡ ways ++ way ∷ [] → AreWaysSoFar nodes leads (n + 1) after
   one_way {way} {after} is put = record {
     each = λ k other here. ⊎_elim
         (λ (before : slice_get ways k ≡ Some other). so_far.each k other before)

@@ -30,10 +30,9 @@ pub record AreBehindLast (marks : List Bool) (behind : List ℕ) : Type 0 where
 abbrev pub AreAmong : List Way → ℕ → Type 0
 AreAmong ways count = (k : ℕ) (way : Way) → slice_get ways k ≡ Some way → (way.behind ≤ count) × (way.target < count)
 
--- one of the first n ways leads to this place from a marked one
-pub record IsLedTo (ways : List Way) (n : ℕ) (marks : List Bool) (place : ℕ) : Type 0 where
+-- one of the ways leads to this place from a marked one
+pub record IsLedTo (ways : List Way) (marks : List Bool) (place : ℕ) : Type 0 where
   pub index : ℕ
-  pub before : index < n
   pub way : Way
   pub there : slice_get ways index ≡ Some way
   pub leads : way.target ≡ place
@@ -42,6 +41,6 @@ pub record IsLedTo (ways : List Way) (n : ℕ) (marks : List Bool) (place : ℕ)
   pub marked : IsMarked marks above
 
 -- the places that are marked under these are just those
-pub record AreMarkedUnder (ways : List Way) (n : ℕ) (marks under : List Bool) : Type 0 where
+pub record AreMarkedUnder (ways : List Way) (marks under : List Bool) : Type 0 where
   pub count : length under ≡ length marks
-  pub each : (place : ℕ) → IsMarked under place ↔ IsLedTo ways n marks place
+  pub each : (place : ℕ) → IsMarked under place ↔ IsLedTo ways marks place

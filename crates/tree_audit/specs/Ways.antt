@@ -34,7 +34,7 @@ pub record HasWay (nodes : List ℕ) (ways : List Way) (lead : ℕ) : Type 0 whe
   pub there : slice_get ways place ≡ Some way
   pub is : IsWayOf nodes lead way
 
--- the ways are those of these child cells, and each of the first n that leads to one of the nodes has its own
-pub record AreWays (nodes leads : List ℕ) (n : ℕ) (ways : List Way) : Type 0 where
+-- the ways are those of these child cells, and each that leads to one of the nodes has its own
+pub record AreWays (nodes leads : List ℕ) (ways : List Way) : Type 0 where
   pub each : (k : ℕ) (way : Way) → slice_get ways k ≡ Some way → IsWayAmong nodes leads way
-  pub all : (k lead : ℕ) → k < n → slice_get leads k ≡ Some lead → Contains nodes (lead / TARGET_STEP) → HasWay nodes ways lead
+  pub all : (k lead : ℕ) → slice_get leads k ≡ Some lead → Contains nodes (lead / TARGET_STEP) → HasWay nodes ways lead

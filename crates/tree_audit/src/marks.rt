@@ -54,7 +54,7 @@ fn root_marks(
 /// The marks of the nodes to which these ways lead from marked ones.
 fn marks_under(alloc: Global, ways: &[Way], marks: &[bool]) -> Result<Vec<bool>, NoMemory>
     requires { AreAmong ways.now (length marks.now) }
-    ensures { IfOk result (λ under. AreMarkedUnder ways.now (length ways.now) marks.now under.items) }
+    ensures { IfOk result (λ under. AreMarkedUnder ways.now marks.now under.items) }
 {
     let behind = behind_marked(alloc, marks)?;
     let mut under = memory::repeated(alloc, false, marks.len())?;

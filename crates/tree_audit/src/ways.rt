@@ -1,5 +1,5 @@
 //! Child cells as ways between nodes, by the places of these in the row of all of them.
-ghost use Rattle.std.specs.Prelude.{◌≡◌, ◌/◌, length, slice_get, Contains, IfNone, IfOk, IfSome, Some};
+ghost use Rattle.std.specs.Prelude.{◌≡◌, ◌/◌, slice_get, Contains, IfNone, IfOk, IfSome, Some};
 ghost use Rattle.std.specs.List.Sorted.{IsStrictlyIncreasing};
 ghost use Rattle.tree_audit.specs.Ways.{AreLower, AreWays, IsWayOf};
 
@@ -23,7 +23,7 @@ pub(crate) struct Way {
 /// The ways of the child cells with these numbers. One that leads to none of the nodes has none.
 pub(crate) fn ways_of(alloc: Global, nodes: &[u64], leads: &[u64]) -> Result<Vec<Way>, NoMemory>
     requires { IsStrictlyIncreasing nodes.now }
-    ensures { IfOk result (λ ways. AreWays nodes.now leads.now (length leads.now) ways.items) }
+    ensures { IfOk result (λ ways. AreWays nodes.now leads.now ways.items) }
 {
     let mut ways = Vec::new(alloc);
     for lead in leads {

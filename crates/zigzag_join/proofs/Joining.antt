@@ -9,7 +9,7 @@ use Rattle.worm_device.proofs.Resting.{viewed_self, viewed_then}
 use Rattle.zigzag_join.specs.Counts.{HaveSlots, JoinCosts}
 use Rattle.zigzag_join.specs.Joins.{AllOwe, AllVouch, HasAgreed, IsTurnAfter}
 use Rattle.zigzag_join.proofs.SlotCounts.{at_least, at_most, passes, times_more, times_on}
-use Rattle.zigzag_join.specs.Lists.{AsksNext, CountsAsks, HasPaid, ListsState, Keeps, ListNextEnds, paid_reads}
+use Rattle.zigzag_join.specs.Lists.{AsksNext, ComesTo, CountsAsks, HasPaid, ListsState, Keeps, paid_reads}
 
 -- calls after calls
 pub keeps_then : {a b c : ListsState} → Keeps a b → Keeps b c → Keeps a c
@@ -309,7 +309,7 @@ module _ {old now new : ListsState} {from w agreed slot : ℕ} (s : CommonSoFar 
   was_still = still_first s.kept.viewed.called.foreign_writes kept.viewed.called.foreign_writes
 
   -- one turn more
-  pub turn_more : (v a n : ℕ) → agreed < old.lists → AsksNext now new → ListNextEnds w slot now new (Ok (Some n))
+  pub turn_more : (v a n : ℕ) → agreed < old.lists → AsksNext now new → ComesTo w slot now new n
       → IsTurnAfter old.lists w v → HasAgreed n slot agreed a → CommonSoFar old new from v a n
   turn_more v a n not_all asks ends after agrees = record {
     kept = both;

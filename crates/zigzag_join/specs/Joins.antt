@@ -20,9 +20,9 @@ IsTurnAfter lists which next = ((which + 1 ≡ lists) × (next ≡ 0)) ⊎ ((whi
 abbrev pub HasAgreed : ℕ → ℕ → ℕ → ℕ → Type 0
 HasAgreed next slot agreed now = ((slot < next) × (now ≡ 1)) ⊎ ((next ≡ slot) × (now ≡ agreed + 1))
 
--- whether all lists have the slot
+-- whether all lists have the slot, which is live then
 abbrev pub AllHaveEnds : ℕ → ListsState → ListsState → Result Bool Fault → Type 0
-AllHaveEnds slot old new (Ok true) = AllVouch new slot
+AllHaveEnds slot old new (Ok true) = AllVouch new slot × new.live slot
 AllHaveEnds slot old new (Ok false) = AllOwe old slot → ⊥
 AllHaveEnds slot old new (Err fault) = ListsFaultEnds old new fault
 

@@ -27,7 +27,7 @@ pub record ListsState : Type 1 where
   pub shows : Evidence → Type 0
   -- the list has some posting of the slot: its next slot is always one of these
   pub lands : ℕ → ℕ → Type 0
-  -- the slot was seen to be live: the next slot of each list is always one of these
+  -- the slot was seen to be live: what lists answer is always one of these
   pub live : ℕ → Type 0
   -- how often a list was asked for its next slot, and how often whether it has one
   pub next_asks : ℕ
@@ -88,18 +88,23 @@ abbrev pub AsksHas : ListsState → ListsState → Type 0
 AsksHas old new =
     (new.next_asks ≡ old.next_asks) × (new.has_asks ≤ old.has_asks + 1) × Rose old.has_asks new.has_asks
 
+-- the list comes to this slot from one on: it is a slot of a posting of the list, and none that the list must not pass
+-- lies between
+abbrev pub ComesTo : ℕ → ℕ → ListsState → ListsState → ℕ → Type 0
+ComesTo which from old new n =
+    (from ≤ n) × (n < MAX_SLOTS) × new.lands which n × ((slot : ℕ) → old.owes which slot → from ≤ slot → n ≤ slot)
+
 -- what a list answers that is asked for a slot at or past one
 abbrev pub ListNextEnds : ℕ → ℕ → ListsState → ListsState → Result (Option ℕ) Fault → Type 0
-ListNextEnds which from old new (Ok (Some n)) =
-    (from ≤ n) × (n < MAX_SLOTS) × new.lands which n × ((slot : ℕ) → old.owes which slot → from ≤ slot → n ≤ slot)
-    × new.live n
+ListNextEnds which from old new (Ok (Some n)) = ComesTo which from old new n × new.live n
 ListNextEnds which from old new (Ok None) = (slot : ℕ) → old.owes which slot → from ≤ slot → ⊥
 ListNextEnds which from old new (Err fault) = ListsFaultEnds old new fault
 
--- and where it tells besides that it vouches for the slot
+-- and where only a slot for which it says that it vouches need be live
 abbrev pub LandEnds : ℕ → ℕ → ListsState → ListsState → Result (Option Landing) Fault → Type 0
 LandEnds which from old new (Ok (Some landing)) =
-    ListNextEnds which from old new (Ok (Some landing.slot)) × (IsTrue landing.vouched → new.vouches which landing.slot)
+    ComesTo which from old new landing.slot
+    × (IsTrue landing.vouched → new.vouches which landing.slot × new.live landing.slot)
 LandEnds which from old new (Ok None) = ListNextEnds which from old new (Ok None)
 LandEnds which from old new (Err fault) = ListsFaultEnds old new fault
 
@@ -108,16 +113,23 @@ abbrev pub KnowsNext : (ℕ → Type 0) → Result (Option ℕ) Fault → Type 0
 KnowsNext knows (Ok (Some n)) = knows n
 KnowsNext knows other = ⊤
 
--- and of the one that a list has come to
+-- and of the one that a list has come to, where it vouches for it
 abbrev pub KnowsLanding : (ℕ → Type 0) → Result (Option Landing) Fault → Type 0
-KnowsLanding knows (Ok (Some landing)) = knows landing.slot
+KnowsLanding knows (Ok (Some landing)) = IsTrue landing.vouched → knows landing.slot
 KnowsLanding knows other = ⊤
 
--- what was known of a slot is known still
-abbrev pub KnowsOn : (ℕ → Type 0) → (ℕ → Type 0) → Type 0
-KnowsOn old new = (slot : ℕ) → old slot → new slot
+-- and of the one that a list has
+abbrev pub KnowsHad : (ℕ → Type 0) → ℕ → Result Bool Fault → Type 0
+KnowsHad knows slot (Ok there) = IsTrue there → knows slot
+KnowsHad knows slot (Err fault) = ⊤
 
 -- what a list answers that is asked whether it has a slot
 abbrev pub HasEnds : ℕ → ℕ → ListsState → ListsState → Result Bool Fault → Type 0
 HasEnds which slot old new (Ok there) = (old.owes which slot → IsTrue there) × (IsTrue there → new.vouches which slot)
 HasEnds which slot old new (Err fault) = ListsFaultEnds old new fault
+
+-- and where a slot that it has is live besides
+abbrev pub ConfirmEnds : ℕ → ℕ → ListsState → ListsState → Result Bool Fault → Type 0
+ConfirmEnds which slot old new (Ok there) =
+    (old.owes which slot → IsTrue there) × (IsTrue there → new.vouches which slot × new.live slot)
+ConfirmEnds which slot old new (Err fault) = ListsFaultEnds old new fault

@@ -3,14 +3,14 @@ ghost use Rattle.std.specs.Prelude.{◌≡◌, ◌≤◌, ◌<◌, ◌+◌, ◌^
 ghost use Rattle.cell_types.specs.declared.geometry.TheConstants.{MAX_SLOTS};
 ghost use Rattle.zigzag_join.specs.Counts.{JoinCosts};
 ghost use Rattle.zigzag_join.specs.Joins.{AllHaveEnds, AllVouch, HasAgreed, IsTurnAfter, JoinEnds};
-ghost use Rattle.zigzag_join.specs.Lists.{Keeps, KnowsNext, KnowsOn};
+ghost use Rattle.zigzag_join.specs.Lists.{Keeps, KnowsHad, KnowsNext};
 
 use crate::{Landing, Lists};
 use cell_types::{Fault, MAX_SLOTS};
 
 /// The next slot at or past one that all lists have, `None` where there is none. It passes no slot that no list may
 /// pass. Any one list bounds how often they all are asked, also where a fault comes. A fault is that of the list that
-/// was asked last. Of the slot the lists know what they knew as one of them came to it last.
+/// was asked last. The slot is live, and the lists know of it what they know of a slot that one of them answers.
 pub fn next_common<Q: Lists>(lists: &mut Q, from: u32) -> Result<Option<u32>, Fault>
     requires some { 1 ≤ (Q.state lists.old).lists }
     requires from { from ≤ MAX_SLOTS }
@@ -71,24 +71,28 @@ fn turn_after(which: u32, count: u32) -> u32
     if which + 1 == count { 0 } else { which + 1 }
 }
 
-/// Whether all lists have the slot that they have come to. They are not asked where each of them vouches for it.
+/// Whether all lists have the slot that they have come to, which is live then. They are not asked where each of them
+/// vouches for it. Only the first has to confirm that it is live, once all others have it.
 fn all_have<Q: Lists>(lists: &mut Q, count: u32, slot: u32, vouched: bool) -> Result<bool, Fault>
+    requires some { 1 ≤ count }
     requires count { count ≡ (Q.state lists.old).lists }
     requires slot { slot < MAX_SLOTS }
     requires vouched { IsTrue vouched → AllVouch (Q.state lists.old) slot }
+    requires live { IsTrue vouched → (Q.state lists.old).live slot }
+    requires known { IsTrue vouched → Q.knows lists.old slot }
     ensures kept { Keeps (Q.state lists.old) (Q.state lists.new) }
     ensures next_asks { (Q.state lists.new).next_asks ≤ (Q.state lists.old).next_asks }
     ensures has_asks { (Q.state lists.new).has_asks ≤ (Q.state lists.old).has_asks + count }
-    ensures knows { KnowsOn (Q.knows lists.old) (Q.knows lists.new) }
+    ensures knows { KnowsHad (Q.knows lists.new) slot result }
     ensures ends { AllHaveEnds slot (Q.state lists.old) (Q.state lists.new) result }
 {
     if vouched {
         return Ok(true);
     }
-    for which in 0..count {
+    for which in 1..count {
         if !lists.has(which, slot)? {
             return Ok(false);
         }
     }
-    Ok(true)
+    lists.confirm(0, slot)
 }

@@ -9,9 +9,10 @@ ghost use Rattle.zigzag_join.specs.Lists.{
   HasEnds,
   AsksNext,
   AsksHas,
+  ConfirmEnds,
+  KnowsHad,
   KnowsLanding,
   KnowsNext,
-  KnowsOn,
 };
 
 use cell_types::Fault;
@@ -20,7 +21,7 @@ use cell_types::Fault;
 #[derive(Clone, Copy)]
 pub struct Landing {
     pub slot: u32,
-    /// Whether the list vouches for the slot. Where it does not say so, it may have it all the same.
+    /// Whether the list vouches for the slot, which is live then. Where it does not say so, it may have it all the same.
     pub vouched: bool,
 }
 
@@ -30,7 +31,7 @@ pub trait Lists {
     /// they may name as evidence, and how many reads an ask may cost.
     ghost state: { Self → ListsState };
 
-    /// What the lists know of a slot that one of them has come to, until one of them is asked for its next slot again.
+    /// What the lists know of a slot that one of them has answered, until one of them is asked again.
     ghost knows: { Self → ℕ → Type 0 };
 
     /// How many lists there are.
@@ -47,8 +48,8 @@ pub trait Lists {
         ensures knows { KnowsNext (knows self.new) result }
         ensures ends { ListNextEnds which from (state self.old) (state self.new) result };
 
-    /// The same as `next`, which a list may know more of: one that vouches for the slot need not be asked whether it has
-    /// it.
+    /// The same as `next`, but that the slot need be live only where the list vouches for it. A list that does need not
+    /// be asked whether it has it.
     fn land(&mut self, which: u32, from: u32) -> Result<Option<Landing>, Fault>
         requires which { which < (state self.old).lists }
         requires from { from ≤ MAX_SLOTS }
@@ -66,13 +67,20 @@ pub trait Lists {
         }))
     }
 
-    /// Whether a list has the slot. It has each slot that it must not pass, and vouches for each that it has. What the
-    /// lists know of a slot they go on knowing.
+    /// Whether a list has the slot. It has each slot that it must not pass, and vouches for each that it has.
     fn has(&mut self, which: u32, slot: u32) -> Result<bool, Fault>
         requires which { which < (state self.old).lists }
         requires slot { slot < MAX_SLOTS }
         ensures kept { Keeps (state self.old) (state self.new) }
         ensures asks { AsksHas (state self.old) (state self.new) }
-        ensures knows { KnowsOn (knows self.old) (knows self.new) }
         ensures ends { HasEnds which slot (state self.old) (state self.new) result };
+
+    /// The same as `has`, and a slot that the list has is live.
+    fn confirm(&mut self, which: u32, slot: u32) -> Result<bool, Fault>
+        requires which { which < (state self.old).lists }
+        requires slot { slot < MAX_SLOTS }
+        ensures kept { Keeps (state self.old) (state self.new) }
+        ensures asks { AsksHas (state self.old) (state self.new) }
+        ensures knows { KnowsHad (knows self.new) slot result }
+        ensures ends { ConfirmEnds which slot (state self.old) (state self.new) result };
 }

@@ -1,7 +1,6 @@
 -- No block yet; one more; and all of them.
-use Rattle.std.proofs.Common.{ℕ, subst, arith}
-use Rattle.list_audit.specs.Blocks.{AreDecoded}
-use Rattle.list_audit.proofs.Numbering.{none_decoded, one_decoded}
+use Rattle.std.proofs.Common.{arith}
+use Rattle.list_audit.proofs.Numbering.{all_decoded, none_decoded, one_decoded}
 use Rattle.list_audit.proofs.found.blocks_of_numbers.Goals as goal
 
 pub of_neighbour_number-requires : goal.of_neighbour_number-requires
@@ -14,5 +13,4 @@ pub loop-number-preserved : goal.loop-number-preserved
 loop-number-preserved c = one_decoded _ c.loop-number.invariant c.in_ok-push.ensures.items c.of_neighbour_number.ensures (omega arith)
 
 pub returns : goal.returns
-returns c = subst (λ (n : ℕ). AreDecoded c.args.numbers.now n c.loop-number.blocks.items)
-    (omega (arith, c.loop-number-test.false, c.loop-number.auto.number-index-end)) c.loop-number.invariant
+returns c = all_decoded c.loop-number.invariant (omega (arith, c.loop-number-test.false, c.loop-number.auto.number-index-end))

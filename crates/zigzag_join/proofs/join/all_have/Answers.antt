@@ -9,4 +9,4 @@ pub returns-then-not-branch-clause-kept : goal.returns-then-not-branch-clause-ke
 returns-then-not-branch-clause-kept g c = keeps_then c.loop-which.invariant.kept c.in_ok-has.ensures.kept
 
 pub returns-clause-kept : goal.returns-clause-kept
-returns-clause-kept g c = c.loop-which.invariant.kept
+returns-clause-kept g c = keeps_then c.loop-which.invariant.kept c.confirm.ensures.kept

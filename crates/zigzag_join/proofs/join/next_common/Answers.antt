@@ -29,7 +29,7 @@ vouches g c all =
     (g.Q.Lists.state c.land.new.self) c.loop-slot.which c.turn_after-which.result c.loop-slot.agreed
     c.agreed_at-agreed.result c.loop-slot.slot c.in-Some.next.slot
     (rw c.loop-slot.invariant.count at c.turn_after-which.ensures) c.agreed_at-agreed.ensures
-    c.in_ok-next.ensures.kept ((rw c.in-Some.is at c.in_ok-next.ensures.ends).1 (c.vouched_at-vouched.ensures.own all))
+    c.in_ok-next.ensures.kept ((rw c.in-Some.is at c.in_ok-next.ensures.ends).1 (c.vouched_at-vouched.ensures.own all)).0
     (⊎_elim (λ (up : c.loop-slot.slot < c.in-Some.next.slot). inl up)
     (λ (before : IsTrue c.loop-slot.vouched). inr (c.loop-slot.invariant.vouched before))
     (c.vouched_at-vouched.ensures.others all))

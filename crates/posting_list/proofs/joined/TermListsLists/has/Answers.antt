@@ -2,7 +2,7 @@
 use Rattle.std.proofs.Common.{arith, refl, rules}
 use Rattle.worm_device.proofs.Resting.{viewed_self}
 use Rattle.posting_list.proofs.Evidence.{false_never}
-use Rattle.posting_list.proofs.Joining.{has_ends, keeps_has, knows_on, none_owed}
+use Rattle.posting_list.proofs.Joining.{has_ends, keeps_has, none_owed}
 use Rattle.posting_list.proofs.joined.TermListsLists.has.Goals as goal
 
 -- the list can't be asked
@@ -32,8 +32,3 @@ returns-clause-ends g c =
     (g.V.View.seen c.args.self.now.view.now)
     (g.V.View.seen c.own_has.new.view) 0 0 0 0 c.args.which c.in-Some.term c.in-Some.ensures.there c.args.slot
     c.own_has.result c.own_has.ensures.has
-
-pub returns-clause-knows : goal.returns-clause-knows
-returns-clause-knows g c =
-    knows_on c.args.self.now.reach (g.V.View.seen c.args.self.now.view.now) (g.V.View.seen c.own_has.new.view)
-    c.args.self.now.last c.own_has.ensures.has.viewed

@@ -2,9 +2,9 @@
 use Rattle.std.proofs.Common.{arith, refl, rules}
 use Rattle.cell_types.proofs.Passed.{handed}
 use Rattle.worm_device.proofs.Resting.{viewed_self}
-use Rattle.posting_list.proofs.Joining.{keeps_next, knows_landed, land_fails, land_none, land_some, none_owed}
+use Rattle.posting_list.proofs.Joining.{keeps_next, knows_always, knows_landed, land_fails, land_none, land_some, none_owed}
 use Rattle.posting_list.proofs.Owed.{owed_small}
-use Rattle.posting_list.proofs.joined.TermListsLists.land.Goals as goal
+use Rattle.posting_list.proofs.term_lists.TermLists.come_to.Goals as goal
 
 -- the list can't be asked
 pub returns-in_default-clause-ends : goal.returns-in_default-clause-ends
@@ -43,7 +43,7 @@ returns-in_err-found-clause-ends g c =
     rw (handed c.from_residual.result c.in_err-found.field-0.0 c.from_residual.ensures.1)
     (land_fails c.args.self.now.reach c.args.self.now.sought.now.terms.items c.args.self.now.view.ghost_name
     (g.V.View.seen c.args.self.now.view.now)
-    (g.V.View.seen c.next_of_own.new.view) 0 0 0 0 c.args.which c.in-Some.term c.in-Some.ensures.there c.args.from
+    (g.V.View.seen c.next_of_own.new.view) 0 0 0 0 c.args.which c.in-Some.term c.in-Some.ensures.there c.args.from c.args.always
     c.in_err-found.field-0.0 c.in_err-found.ensures.next)
 
 -- there is no slot
@@ -58,7 +58,7 @@ pub returns-in_default-found-clause-ends : goal.returns-in_default-found-clause-
 returns-in_default-found-clause-ends g c =
     land_none c.args.self.now.reach c.args.self.now.sought.now.terms.items c.args.self.now.view.ghost_name
     (g.V.View.seen c.args.self.now.view.now)
-    (g.V.View.seen c.next_of_own.new.view) 0 0 0 0 c.args.which c.in-Some.term c.in-Some.ensures.there c.args.from
+    (g.V.View.seen c.next_of_own.new.view) 0 0 0 0 c.args.which c.in-Some.term c.in-Some.ensures.there c.args.from c.args.always
     (rw c.in_default-found.is at c.in_ok-found.ensures.next)
 
 -- there is one
@@ -73,11 +73,17 @@ pub returns-clause-ends : goal.returns-clause-ends
 returns-clause-ends g c =
     land_some c.args.self.now.reach c.args.self.now.sought.now.terms.items c.args.self.now.view.ghost_name
     (g.V.View.seen c.args.self.now.view.now)
-    (g.V.View.seen c.next_of_own.new.view) 0 0 0 0 c.args.which c.in-Some.term c.in-Some.ensures.there c.args.from
+    (g.V.View.seen c.next_of_own.new.view) 0 0 0 0 c.args.which c.in-Some.term c.in-Some.ensures.there c.args.from c.args.always
     c.in-Some-found.landed (rw c.in-Some-found.is at c.in_ok-found.ensures.next)
 
 pub returns-clause-knows : goal.returns-clause-knows
 returns-clause-knows g c =
-    knows_landed c.args.self.now.reach c.in-Some.term c.args.from (g.V.View.seen c.args.self.now.view.now)
+    knows_landed c.args.self.now.reach c.in-Some.term c.args.from c.args.always (g.V.View.seen c.args.self.now.view.now)
+    (g.V.View.seen c.next_of_own.new.view) c.in-Some-found.landed
+    (rw c.in-Some-found.is at c.in_ok-found.ensures.next)
+
+pub returns-clause-always : goal.returns-clause-always
+returns-clause-always g c =
+    knows_always c.args.self.now.reach c.in-Some.term c.args.from c.args.always (g.V.View.seen c.args.self.now.view.now)
     (g.V.View.seen c.next_of_own.new.view) c.in-Some-found.landed
     (rw c.in-Some-found.is at c.in_ok-found.ensures.next)

@@ -2,7 +2,7 @@
 use Rattle.std.proofs.Common.{◌-◌}
 use Rattle.posting_list.specs.Keeping.{KeepsSearch}
 use Rattle.posting_list.proofs.Bisecting.{HasSoFar, IsNarrowed}
-use Rattle.posting_list.proofs.has_slot.has_slot.Given as goal
+use Rattle.posting_list.proofs.has_slot.find_posting.Given as goal
 
 abbrev pub invariant-loop-low : goal.invariant-loop-low
 invariant-loop-low g l = record {
