@@ -20,16 +20,6 @@ less_by : (a b : ℕ) → nat_cmp a b ≡ Less → a < b
 less_by a b h = grind (arith, nat_tests)
 
 -- what a look at the next number of a row tells
-pub none_taken : (r : Option (Bor ℕ)) (rest : List ℕ) {row : List ℕ} → MatchOption r ((row ≡ []) × (rest ≡ [])) (λ x. row ≡ x.now ∷ rest) → is_some r ≡ false
-    → row ≡ []
-none_taken None rest taken none = taken.0
-none_taken (Some x) rest taken none = let clash : true ≡ false = none in absurd cc
-
-pub one_taken : (r : Option (Bor ℕ)) {row rest : List ℕ} → MatchOption r ((row ≡ []) × (rest ≡ [])) (λ x. row ≡ x.now ∷ rest) → is_some r ≡ true
-    → (number : ℕ) × (row ≡ number ∷ rest)
-one_taken None taken has = let clash : false ≡ true = has in absurd cc
-one_taken (Some x) taken has = (x.now, taken)
-
 pub taken_tells : (P : Type 0) (b : Bool) (r : Option (Bor ℕ)) {row rest : List ℕ}
     → MatchOption r ((row ≡ []) × (rest ≡ [])) (λ x. row ≡ x.now ∷ rest) → b ≡ is_some r
     → (row ≡ [] → P → ⊥) → ((number : ℕ) → row ≡ number ∷ rest → P) → (IsTrue b ↔ P)
@@ -60,6 +50,13 @@ module _ (numbers : BTreeSet ℕ) (from behind : ℕ) (row : List ℕ) (range : 
       let greatest : two.last ≤ number =
       no_less number two.last (range.4 number [] single two.last (inside two.last (omega (arith, two.low, two.rises)) two.high) two.has_last) in
       omega (arith, least, greatest, two.rises)
+
+  -- the first does
+  pub first_lies : (number : ℕ) (rest : List ℕ) → row ≡ number ∷ rest → (from ≤ number) × (number < behind) × (contains nat_cmp numbers number ≡ true)
+  first_lies number rest is =
+      let each = subst (All (IsKeyInRange nat_cmp (Included from) (Excluded behind) numbers)) is range.0 in
+      let first = each 0 0 (omega arith) in
+      (no_greater from number first.0.0, less_by number behind first.0.1, first.1)
 
   -- two do
   pub two_lie : IsStrictlySortedBy nat_cmp row → (number next : ℕ) (rest : List ℕ) → row ≡ number ∷ next ∷ rest → HasTwoBetween numbers from behind

@@ -1,13 +1,13 @@
 -- Blocks that were taken: each for its list, or for two others.
-use Rattle.std.proofs.Common.{◌≡◌, ◌<◌, ◌+◌, ◌-◌, ◌*◌, ◌^◌, ◌⊎◌, ◌++◌, ⊎_elim, inl, inr, ℕ, Bool, true, false, not, List, [], ◌∷◌, length, Some, refl, sym, ◌∙◌, subst, ap, arith}
+use Rattle.std.proofs.Common.{◌≡◌, ◌<◌, ◌+◌, ◌-◌, ◌*◌, ◌^◌, ◌⊎◌, ◌++◌, ⊎_elim, inl, inr, ℕ, Bool, true, false, not, List, [], ◌∷◌, length, Option, Some, refl, sym, ◌∙◌, subst, ap, arith}
 use Rattle.std.specs.Prelude.{IsTrue, slice_get}
 use Rattle.std.specs.Ordering.{nat_cmp}
 use Rattle.std.specs.BTreeSet.{BTreeSet, contains, Updates as SetUpdates}
 use Rattle.std.proofs.lemmas.Bool.{cases_order}
 use Rattle.std.proofs.lemmas.Bool.Decides.{nat_tests}
 use Rattle.std.proofs.lemmas.Option.{slice_get_within}
-use Rattle.log_audit.proofs.OneMore.{get_before, get_last, get_pushed}
-use Rattle.list_audit.specs.Blocks.{AddsBlock, AreForTwo, AreFound, IsAmongBlocks, IsNumbered, IsShared, IsTaken}
+use Rattle.log_audit.proofs.OneMore.{get_before, get_last, get_pushed, length_pushed}
+use Rattle.list_audit.specs.Blocks.{AddsBlock, AreForTwo, AreFound, IsAmongBlocks, IsAnother, IsNumbered, IsShared, IsTaken}
 use Rattle.list_audit.specs.declared.found.FoundBlocks.{FoundBlocks}
 use Rattle.list_audit.specs.declared.listed.ListBlock.{ListBlock}
 use Rattle.list_audit.specs.declared.listed.TheConstants.{BLOCK_STEP}
@@ -163,8 +163,8 @@ module _ {found : FoundBlocks} (are : AreFound found) (block : ListBlock) where
 
   -- which may be noted
   pub found_shared : {after : FoundBlocks} → after.for_two ≡ found.for_two → after.blocks.items ≡ found.blocks.items → after.numbers ≡ found.numbers
-      → SetUpdates nat_cmp found.shared after.shared block.block true → IsTrue found.for_two × IsShared found.blocks.items block.block → AreFound after
-  found_shared {after} mode is numbers updates shared = record {
+      → after.others.items ≡ found.others.items → SetUpdates nat_cmp found.shared after.shared block.block true → IsTrue found.for_two × IsShared found.blocks.items block.block → AreFound after
+  found_shared {after} mode is numbers beside updates shared = record {
     each = λ i b there. subst (λ (set : BTreeSet ℕ). contains nat_cmp set (neighbour_number b.list b.block) ≡ true) (sym numbers) (are.each i b (here i b there));
     small = λ i b there. are.small i b (here i b there);
     all = λ n has. subst (λ (blocks : List ListBlock). IsNumbered blocks n) (sym is)
@@ -174,6 +174,9 @@ module _ {found : FoundBlocks} (are : AreFound found) (block : ListBlock) where
         (λ (same : other ≡ block.block). (mode ∙ shared.0, still other (subst (IsShared found.blocks.items) (sym same) shared.1)))
         (λ before. let s = are.shared other before in (mode ∙ s.0, still other s.1))
         (more_numbers found.shared after.shared block.block updates other has);
+    beside = omega (arith, ap length beside, ap (λ (bs : List ListBlock). length bs) is, are.beside);
+    others = λ i b other there at. subst (λ (m : Bool). IsAnother m b.list other) (sym mode)
+        (are.others i b other (here i b there) (subst (λ (xs : List (Option ℕ)). slice_get xs i ≡ Some other) beside at));
   }
     where
       here : (i : ℕ) (b : ListBlock) → slice_get after.blocks.items i ≡ Some b → slice_get found.blocks.items i ≡ Some b
@@ -208,8 +211,9 @@ module _ {found : FoundBlocks} (are : AreFound found) (block : ListBlock) where
   -- and its number is one of the numbers
   pub found_behind : {after : FoundBlocks} → after.for_two ≡ found.for_two → after.blocks.items ≡ found.blocks.items ++ block ∷ []
       → SetUpdates nat_cmp found.numbers after.numbers (neighbour_number block.list block.block) true → after.shared ≡ found.shared
+      → (other : Option ℕ) → after.others.items ≡ found.others.items ++ other ∷ [] → IsAnother found.for_two block.list other
       → (block.list < BLOCK_STEP) × (block.block < 2 ^ 32) → (IsTrue found.for_two → IsShared found.blocks.items block.block → ⊥) → AreFound after
-  found_behind {after} mode is updates shared small alone = record {
+  found_behind {after} mode is updates shared other put another small alone = record {
     each = λ i b there. ⊎_elim
         (λ (h : slice_get found.blocks.items i ≡ Some b). kept_number found.numbers after.numbers number updates (neighbour_number b.list b.block) (are.each i b h))
         (λ (h : (b.list ≡ block.list) × (b.block ≡ block.block)).
@@ -224,10 +228,29 @@ module _ {found : FoundBlocks} (are : AreFound found) (block : ListBlock) where
         (λ before. let w = are.all n before in record { place = w.place; one = w.one; there = adds.keeps w.place w.one w.there; is = w.is })
         (more_numbers found.numbers after.numbers number updates n has);
     most = λ for_two. let two : IsTrue found.for_two = sym mode ∙ for_two in most_more adds (alone two) (are.most two);
-    shared = λ other has. let s = are.shared other (subst (λ (set : BTreeSet ℕ). contains nat_cmp set other ≡ true) shared has) in
+    shared = λ one has. let s = are.shared one (subst (λ (set : BTreeSet ℕ). contains nat_cmp set one ≡ true) shared has) in
         (mode ∙ s.0, shared_more adds s.1);
+    beside = omega (
+      arith,
+      ap length put ∙ length_pushed found.others.items other,
+      ap (λ (bs : List ListBlock). length bs) is ∙ length_pushed found.blocks.items block,
+      are.beside,
+    );
+    others = λ i b one there at. subst (λ (m : Bool). IsAnother m b.list one) (sym mode) (beside_put i b one
+        (get_pushed found.others.items other i one (subst (λ (xs : List (Option ℕ)). slice_get xs i ≡ Some one) put at))
+        (get_pushed found.blocks.items block i b (subst (λ (xs : List ListBlock). slice_get xs i ≡ Some b) is there)));
   }
     where
+      beside_put : (i : ℕ) (b : ListBlock) (one : Option ℕ)
+          → (slice_get found.others.items i ≡ Some one) ⊎ ((i ≡ length found.others.items) × (other ≡ one))
+          → (slice_get found.blocks.items i ≡ Some b) ⊎ ((i ≡ length found.blocks.items) × (block ≡ b))
+          → IsAnother found.for_two b.list one
+      beside_put i b one (inl x) (inl y) = are.others i b one y x
+      beside_put i b one (inl x) (inr y) = absurd (omega (arith, slice_get_within found.others.items i one x, y.0, are.beside))
+      beside_put i b one (inr x) (inl y) = absurd (omega (arith, slice_get_within found.blocks.items i b y, x.0, are.beside))
+      beside_put i b one (inr x) (inr y) = subst (IsAnother found.for_two b.list) x.1
+          (subst (λ (d : ListBlock). IsAnother found.for_two d.list other) y.1 another)
+
       number : ℕ
       number = neighbour_number block.list block.block
 

@@ -1,5 +1,5 @@
 -- The blocks of all lists, found one after another.
-use Rattle.std.specs.Prelude.{◌≡◌, ◌<◌, ◌≤◌, ◌+◌, ◌^◌, ◌⊎◌, ◌↔◌, ℕ, Bool, IsTrue, List, length, slice_get, slice_index, Some, true, false}
+use Rattle.std.specs.Prelude.{◌≡◌, ◌<◌, ◌≤◌, ◌+◌, ◌^◌, ◌⊎◌, ◌↔◌, ℕ, Bool, IsTrue, List, Option, length, slice_get, slice_index, Some, None, true, false, ⊤}
 use Rattle.std.specs.List.Sorted.{IsStrictlyIncreasing}
 use Rattle.std.specs.Ordering.{nat_cmp}
 use Rattle.std.specs.BTreeSet.{contains}
@@ -91,7 +91,13 @@ pub record IsNumbered (blocks : List ListBlock) (number : ℕ) : Type 0 where
   pub there : slice_get blocks place ≡ Some one
   pub is : number ≡ neighbour_number one.list one.block
 
--- the numbers are those of the blocks, of which no three lists have one where each is listed for two
+-- the list, if there is one, is another than l; and each block is listed for two lists
+abbrev pub IsAnother : Bool → ℕ → Option ℕ → Type 0
+IsAnother for_two l None = ⊤
+IsAnother for_two l (Some list) = IsTrue for_two × (list ≡ l → ⊥)
+
+-- the numbers are those of the blocks, of which no three lists have one where each is listed for two; and what stands beside
+-- a block is another list
 pub record AreFound (found : FoundBlocks) : Type 0 where
   pub each : (i : ℕ) (b : ListBlock) → slice_get found.blocks.items i ≡ Some b
       → contains nat_cmp found.numbers (neighbour_number b.list b.block) ≡ true
@@ -99,6 +105,9 @@ pub record AreFound (found : FoundBlocks) : Type 0 where
   pub all : (number : ℕ) → contains nat_cmp found.numbers number ≡ true → IsNumbered found.blocks.items number
   pub most : IsTrue found.for_two → AreForTwo found.blocks.items
   pub shared : (block : ℕ) → contains nat_cmp found.shared block ≡ true → IsTrue found.for_two × IsShared found.blocks.items block
+  pub beside : length found.others.items ≡ length found.blocks.items
+  pub others : (i : ℕ) (b : ListBlock) (other : Option ℕ) → slice_get found.blocks.items i ≡ Some b
+      → slice_get found.others.items i ≡ Some other → IsAnother found.for_two b.list other
 
 -- new is old with this block of list l, if it was not taken before
 pub record AddsBlock (for_two : Bool) (l block : ℕ) (old new : List ListBlock) : Type 0 where

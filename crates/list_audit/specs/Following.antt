@@ -1,5 +1,5 @@
 -- Blocks whose pointers were followed.
-use Rattle.std.specs.Prelude.{◌≡◌, ◌<◌, ◌≤◌, ◌+◌, ◌^◌, ◌⊎◌, ℕ, Bool, IsTrue, List, Option, Some, None, true, ⊤}
+use Rattle.std.specs.Prelude.{◌≡◌, ◌<◌, ◌≤◌, ◌+◌, ◌^◌, ◌⊎◌, ℕ, Bool, IsTrue, List, Option, Some, None, true}
 use Rattle.std.specs.Ordering.{nat_cmp}
 use Rattle.std.specs.BTreeSet.{BTreeSet, contains}
 use Rattle.cell_types.specs.Image.{Image}
@@ -21,11 +21,6 @@ pub record WasFollowed (for_two : Bool) (numbers : BTreeSet ℕ) (l block : ℕ)
   pub list : ℕ
   pub another : list ≡ l → ⊥
   pub followed : contains nat_cmp numbers (block_number list block) ≡ true
-
--- the list, if there is one, is another than l; and each block is listed for two lists
-abbrev pub IsAnother : Bool → ℕ → Option ℕ → Type 0
-IsAnother for_two l None = ⊤
-IsAnother for_two l (Some list) = IsTrue for_two × (list ≡ l → ⊥)
 
 -- the block was followed for the list that there is
 abbrev pub IsFollowedFor : BTreeSet ℕ → ℕ → Option ℕ → Type 0

@@ -28,14 +28,28 @@ pub(crate) fn last_between(numbers: &BTreeSet<u64>, from: u64, behind: u64) -> O
     Some(*number)
 }
 
-/// Whether the set has two numbers from one up to another.
-pub(crate) fn has_two_between(numbers: &BTreeSet<u64>, from: u64, behind: u64) -> bool
+/// Numbers of a set between two others: one of them, if there is one, and whether there are two.
+#[derive(Clone, Copy)]
+pub(crate) struct Between {
+    pub(crate) first: Option<u64>,
+    pub(crate) two: bool,
+}
+
+/// What the set has from one number up to another.
+pub(crate) fn numbers_between(numbers: &BTreeSet<u64>, from: u64, behind: u64) -> Between
     requires { from ≤ behind }
-    ensures { IsTrue result ↔ HasTwoBetween numbers.now from behind }
+    ensures first { IfSome result.first (λ number. (from ≤ number) × (number < behind)
+        × (contains nat_cmp numbers.now number ≡ true)) }
+    ensures two { IsTrue result.two ↔ HasTwoBetween numbers.now from behind }
 {
     let mut between = numbers.range(from..behind);
-    if between.next().is_none() {
-        return false;
-    }
-    between.next().is_some()
+    let Some(first) = between.next() else {
+        return Between {
+            first: None,
+            two: false,
+        };
+    };
+    let first = Some(*first);
+    let two = between.next().is_some();
+    Between { first, two }
 }

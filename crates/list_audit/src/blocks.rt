@@ -83,8 +83,8 @@ fn found_blocks(
         let Some(from) = found.at(turn) else {
             return Ok(found);
         };
+        let other = found.other_list(turn);
         add_targets(kept, geometry, turn, &from, &followed, &mut found)?;
-        let other = found.other_list(&from);
         followed.add(from, other)?;
     }
     // Each of 2^32 - 1 blocks has had its turn, and no memory holds one more.
@@ -143,8 +143,9 @@ fn add_targets(
         BEHIND_POINTERS) }
 {
     let _cells = geometry.cells();
-    let behind = followed.behind_pointers_of(from);
-    for pointer in followed.first_pointer_of(from)..behind {
+    let first = followed.first_pointer_of(from);
+    let behind = followed.behind_pointers_of(from, first);
+    for pointer in first..behind {
         let Some(block) = pointer_target(kept, geometry, from.block + pointer) else {
             continue;
         };

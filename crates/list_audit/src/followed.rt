@@ -1,6 +1,7 @@
 //! Blocks whose pointers were followed.
 ghost use Rattle.std.specs.Prelude.{◌≡◌, ◌<◌, ◌≤◌, ◌+◌, ◌^◌, ℕ, Bool, IsTrue, OnOk};
-ghost use Rattle.list_audit.specs.Following.{AddsFollowed, HasNoneFollowed, IsAnother, IsFollowedAt, IsFollowedFor, IsPassedAt};
+ghost use Rattle.list_audit.specs.Blocks.{IsAnother};
+ghost use Rattle.list_audit.specs.Following.{AddsFollowed, HasNoneFollowed, IsFollowedAt, IsFollowedFor, IsPassedAt};
 ghost use Rattle.list_audit.specs.Numbers.{block_number};
 ghost use Rattle.volume_meaning.specs.declared.blocks.TheConstants.{BLOCK_CELLS};
 
@@ -34,19 +35,18 @@ impl FollowedBlocks {
         }
     }
 
-    /// Adds a block. Where it was followed for another list, too, what its pointers lead to is there for two lists, so that
-    /// it is followed for every list.
+    /// Adds a block. Where it was followed for another list before, what its pointers lead to is there for two lists: then it
+    /// is followed for every list.
     pub(crate) fn add(&mut self, listed: ListBlock, other: Option<u16>) -> Result<(), NoMemory>
         ensures { OnOk result ((for_two : Bool) → IsAnother for_two listed.list other
             → AddsFollowed for_two listed.list listed.block self.old.numbers self.new.numbers) }
     {
-        let is_second = self.has_other(listed.block, other);
-        let number = number_of(u32::from(listed.list), listed.block);
-        memory::insert_new(&mut self.numbers, number)?;
-        if !is_second {
+        if self.has_other(listed.block, other) {
+            memory::insert_new(&mut self.numbers, number_of(EVERY_LIST, listed.block))?;
             return Ok(());
         }
-        memory::insert_new(&mut self.numbers, number_of(EVERY_LIST, listed.block))?;
+        let number = number_of(u32::from(listed.list), listed.block);
+        memory::insert_new(&mut self.numbers, number)?;
         Ok(())
     }
 
@@ -74,13 +74,17 @@ impl FollowedBlocks {
         own.max(every)
     }
 
-    /// The place behind the last pointer place of a block that is none of the next one of the same list, and of every list.
-    pub(crate) fn behind_pointers_of(&self, listed: &ListBlock) -> u32
+    /// The place behind the last pointer place of a block, from the first on, that is none of the next one of the same list,
+    /// and of every list.
+    pub(crate) fn behind_pointers_of(&self, listed: &ListBlock, first: u32) -> u32
         requires { listed.now.block + BLOCK_CELLS ≤ 2 ^ 32 }
         ensures most { result ≤ BEHIND_POINTERS }
         ensures passed { (pointer : ℕ) → result ≤ pointer → pointer < BEHIND_POINTERS
             → IsPassedAt self.now.numbers listed.now.list (listed.now.block + pointer) }
     {
+        if BEHIND_POINTERS - FEW_PLACES <= first {
+            return BEHIND_POINTERS;
+        }
         let every = self.last_before(EVERY_LIST, listed.block);
         if every <= FIRST_POINTER + FEW_PLACES {
             return every;

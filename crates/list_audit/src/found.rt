@@ -1,9 +1,18 @@
 //! Blocks that were found, each once.
-ghost use Rattle.std.specs.Prelude.{◌≡◌, ◌↔◌, IfOk, IsTrue, OnOk, [], length, slice_get};
-ghost use Rattle.list_audit.specs.Blocks.{AddsBlock, AreDecoded, AreFound, AreInOrder, AreSmall, IsShared};
-ghost use Rattle.list_audit.specs.Following.{IsAnother};
+ghost use Rattle.std.specs.Prelude.{◌≡◌, ◌↔◌, IfOk, IfSome, IsTrue, OnOk, Some, [], slice_get};
+ghost use Rattle.list_audit.specs.Blocks.{
+  AddsBlock,
+  AreDecoded,
+  AreFound,
+  AreInOrder,
+  AreSmall,
+  IsAmongBlocks,
+  IsAnother,
+  IsShared,
+};
+ghost use Rattle.list_audit.specs.declared.listed.ListBlock.{ListBlock};
 
-use crate::between::has_two_between;
+use crate::between::numbers_between;
 use crate::listed::{BLOCK_STEP, ListBlock};
 use cell_types::{NoMemory, memory};
 use log_audit::numbers_of;
@@ -25,10 +34,21 @@ pub struct ListBlocks {
 pub(crate) struct FoundBlocks {
     pub(crate) for_two: bool,
     pub(crate) blocks: Vec<ListBlock>,
+    /// Of each block another list that had it as it was found, where each is listed for two.
+    pub(crate) others: Vec<Option<u16>>,
     pub(crate) numbers: BTreeSet<u64>,
     /// Blocks that two lists have, of those that were passed over. Where many lists lead to a block, most that is found is
     /// one of these, and to look for it here costs least.
     pub(crate) shared: BTreeSet<u64>,
+}
+
+/// Which lists have a block, as far as it is asked.
+#[derive(Clone, Copy)]
+struct Holders {
+    /// One of them.
+    one: Option<u16>,
+    /// Whether there are two.
+    two: bool,
 }
 
 impl FoundBlocks {
@@ -41,6 +61,7 @@ impl FoundBlocks {
         FoundBlocks {
             for_two,
             blocks: Vec::new(alloc),
+            others: Vec::new(alloc),
             numbers: BTreeSet::new(alloc),
             shared: BTreeSet::new(alloc),
         }
@@ -64,48 +85,72 @@ impl FoundBlocks {
             (AddsBlock self.old.for_two found.list found.block self.old.blocks.items self.new.blocks.items) }
         ensures found { OnOk result (AreFound self.new) }
     {
+        if !self.for_two {
+            if self.numbers.contains(&found.neighbour_number()) {
+                return Ok(());
+            }
+            return self.put(found, None);
+        }
         let block = u64::from(found.block);
         if self.shared.contains(&block) {
             return Ok(());
         }
-        let number = found.neighbour_number();
-        // Whether it was is asked first, since that costs less than how many lists have it.
-        if self.numbers.contains(&number) {
-            return Ok(());
-        }
-        if self.for_two && self.is_shared(found.block) {
+        let lists = self.lists_of(found.block);
+        if lists.two {
             memory::insert_new(&mut self.shared, block)?;
             return Ok(());
         }
-        memory::insert_new(&mut self.numbers, number)?;
+        match lists.one {
+            Some(list) if list == found.list => Ok(()),
+            Some(list) => self.put(found, Some(list)),
+            None => self.put(found, None),
+        }
+    }
+
+    /// Puts a block behind the others, which no two lists have yet. Another list may be told that has it.
+    fn put(&mut self, found: ListBlock, other: Option<u16>) -> Result<(), NoMemory>
+        requires found { AreFound self.old }
+        requires alone { IsTrue self.old.for_two → IsShared self.old.blocks.items found.block → ⊥ }
+        requires other { IsAnother self.old.for_two found.list other }
+        ensures mode { self.new.for_two ≡ self.old.for_two }
+        ensures adds { OnOk result
+            (AddsBlock self.old.for_two found.list found.block self.old.blocks.items self.new.blocks.items) }
+        ensures found { OnOk result (AreFound self.new) }
+    {
+        memory::insert_new(&mut self.numbers, found.neighbour_number())?;
+        memory::push(&mut self.others, other)?;
         memory::push(&mut self.blocks, found)?;
         Ok(())
     }
 
-    /// Whether two lists have the block already.
-    fn is_shared(&self, block: u32) -> bool
+    /// Which lists have the block: one of them, and whether there are two.
+    fn lists_of(&self, block: u32) -> Holders
         requires { AreFound self.now }
-        ensures { IsTrue result ↔ IsShared self.now.blocks.items block }
+        ensures one { IfSome result.one (λ list. IsAmongBlocks self.now.blocks.items list block) }
+        ensures two { IsTrue result.two ↔ IsShared self.now.blocks.items block }
     {
         let from = u64::from(block) * BLOCK_STEP;
-        has_two_between(&self.numbers, from, from + BLOCK_STEP)
+        let between = numbers_between(&self.numbers, from, from + BLOCK_STEP);
+        let one = match between.first {
+            Some(number) => Some((number % BLOCK_STEP) as u16),
+            None => None,
+        };
+        Holders {
+            one,
+            two: between.two,
+        }
     }
 
-    /// Where each block is listed for two: another list that has the block of this one, if one was found.
-    pub(crate) fn other_list(&self, listed: &ListBlock) -> Option<u16>
-        ensures { IsAnother self.now.for_two listed.now.list result }
+    /// Where each block is listed for two: another list that had the block of this turn as it was found, if one did.
+    pub(crate) fn other_list(&self, turn: u32) -> Option<u16>
+        requires { AreFound self.now }
+        ensures { (block : ListBlock) → slice_get self.now.blocks.items turn ≡ Some block
+            → IsAnother self.now.for_two block.list result }
     {
-        if !self.for_two {
-            return None;
+        match self.others.get(turn as usize) {
+            Some(other) => *other,
+            None => None,
         }
-        let from = u64::from(listed.block) * BLOCK_STEP;
-        for number in self.numbers.range(from..from + BLOCK_STEP) {
-            let list = (*number % BLOCK_STEP) as u16;
-            if list != listed.list {
-                return Some(list);
-            }
-        }
-        None
     }
 
     /// The blocks by rising numbers.

@@ -20,7 +20,7 @@ behind_pointers_of-behind-requires c =
 pub loop-pointer-init : goal.loop-pointer-init
 loop-pointer-init c = (
   refl,
-  passed_before c.requires.closed c.requires.here c.requires.followed c.first_pointer_of-pointer.ensures.passed,
+  passed_before c.requires.closed c.requires.here c.requires.followed c.first_pointer_of-first.ensures.passed,
   c.requires.found,
   c.requires.followed,
 )
@@ -36,7 +36,7 @@ loop-pointer-preserved-in_default c = (
 pub loop-pointer-preserved : goal.loop-pointer-preserved
 loop-pointer-preserved c = let adds = adds_by c.loop-pointer.invariant.0 c.in_ok-add.ensures.adds in (
   c.add.ensures.mode ∙ c.loop-pointer.invariant.0,
-  one_more c.loop-pointer.invariant.1 (omega (arith, c.loop-pointer.auto.pointer, c.first_pointer_of-pointer.ensures.from))
+  one_more c.loop-pointer.invariant.1 (omega (arith, c.loop-pointer.auto.pointer, c.first_pointer_of-first.ensures.from))
       (omega (arith, c.loop-pointer-test.true, c.behind_pointers_of-behind.ensures.most)) c.in-Some.ensures adds,
   c.in_ok-add.ensures.found,
   followed_more adds c.loop-pointer.invariant.3,

@@ -1,8 +1,7 @@
 -- One block more was followed; and no block is left.
-use Rattle.std.proofs.Common.{Bool, subst, sym, ◌∙◌, ap, arith, length, List}
+use Rattle.std.proofs.Common.{sym, ◌∙◌, ap, arith, length, List}
 use Rattle.std.proofs.lemmas.Option.{slice_get_past}
 use Rattle.log_audit.specs.Kept.{image_of_kept}
-use Rattle.list_audit.specs.Following.{IsAnother}
 use Rattle.list_audit.specs.declared.listed.ListBlock.{ListBlock}
 use Rattle.list_audit.proofs.Closing.{all_found}
 use Rattle.list_audit.proofs.Following.{followed_by, none_yet, turn_by}
@@ -21,7 +20,7 @@ add_targets-requires-clause-followed c = followed_by (sym c.loop-turn.invariant.
 
 pub loop-turn-preserved : goal.loop-turn-preserved
 loop-turn-preserved c = let same = c.loop-turn.invariant.0 in
-    let another = subst (λ (mode : Bool). IsAnother mode c.in-Some.from.list c.other_list-other.result) c.add_targets.ensures.mode c.other_list-other.ensures in
+    let another = c.other_list-other.ensures c.in-Some.from (sym c.at.ensures ∙ c.in-Some.is) in
     let turn = turn_by same c.in_ok-add_targets.ensures.closed c.in_ok-add_targets.ensures.followed c.in_ok-add_targets.ensures.leads (omega arith)
     (c.in_ok-add.ensures c.loop-turn.found.for_two another) in
     (c.add_targets.ensures.mode ∙ same, turn.0, c.in_ok-add_targets.ensures.found, turn.1)
