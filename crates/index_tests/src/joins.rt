@@ -113,8 +113,8 @@ fn a_list_is_asked_whether_it_has_a_slot_once_both_have_come_to_it(
         // None in the first list.
         (10, None, None, 1, 0),
         (MAX_SLOTS, None, None, 0, 0),
-        // 1, 2, 4 and 4, which the second list does not have; 7, 9 and 9, which both have.
-        (0, Some(4), Some(9), 7, 4),
+        // 1, 2, 4 and 4, which the second list, asked first, does not have; 7, 9 and 9, which both have.
+        (0, Some(4), Some(9), 7, 3),
     ] {
         let mut lists = TwoLists::new(first, second, denied);
         assert_eq!(rt; next_common(&mut lists, from), Ok(slot));
