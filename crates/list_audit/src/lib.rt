@@ -15,9 +15,9 @@
 //! many lists somebody has led there. Two are enough for each rule but in one case of rule 9, for which all are listed
 //! (`blocks_of`). They come by rising numbers, so that what meets a block is found by bisection. That costs 28 bytes a
 //! block while they are found, 36 while they are put in order, 16 from then on, and no bytes for a cell of none; a block
-//! to which a third list leads costs 8 more while they are found. Blocks of a list that meet have pointer places in common, up to
-//! 119 of them. Each is followed once for the list and for two lists at most, by `followed.rt`: what it leads to is there
-//! for these two, or for two others.
+//! to which a third list leads costs 8 more while they are found. Blocks of a list that meet have pointer places in
+//! common, up to 119 of them. Each is followed once for the list and for two lists at most, by `followed.rt`: what it
+//! leads to is there for these two, or for two others.
 //!
 //! **Rule 8** asks of the cells of a block that postings stand at its first places, without a gap and by rising keys, and
 //! nothing behind its pointers:

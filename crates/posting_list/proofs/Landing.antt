@@ -56,6 +56,7 @@ part_some r e old new part live = record {
   ends = (
     live.ends.3,
     (
+      omega (arith, live.ends.0, live.ends.3),
       omega (arith, live.ends.1, live.ends.3),
       λ tells. subst (λ (n : ℕ). IsDoneSlot r.volume.geometry new.image n) (sym live.ends.3)
           (live.ends.2 (told_before live.viewed tells)),

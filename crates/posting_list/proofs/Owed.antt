@@ -168,8 +168,9 @@ vouched_on r term slot old new e v = record {
 pub live_on : (r : Reach) (slot : ℕ) (s t : ViewState) → Viewed s t → IsLiveSlot r s slot → IsLiveSlot r t slot
 live_on r slot s t viewed live = (
   live.0,
+  live.1,
   λ tells.
-      let d = live.1 (told_before viewed tells) in
+      let d = live.2 (told_before viewed tells) in
       record {
         start = d.start;
         length = d.length;

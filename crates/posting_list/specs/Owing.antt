@@ -63,7 +63,10 @@ Lands r terms s which slot =
     IsTrue s.base.tells
     → (term : SoughtTerm) × (slice_get terms which ≡ Some term) × HasPosting r term s.image slot
 
--- the slot is one of the volume, and done where the view tells its image: lists come to such slots alone
+-- the slot lies below the horizon, is one of the volume, and is done where the view tells its image: such slots alone are
+-- answered
 abbrev pub IsLiveSlot : Reach → ViewState → ℕ → Type 0
 IsLiveSlot r s slot =
-    (slot < r.volume.geometry.slots) × (IsTrue s.base.tells → IsDoneSlot r.volume.geometry s.image slot)
+    (slot < r.horizon)
+    × (slot < r.volume.geometry.slots)
+    × (IsTrue s.base.tells → IsDoneSlot r.volume.geometry s.image slot)

@@ -143,13 +143,13 @@ pub record HasSlot (r : Reach) (term : SoughtTerm) (slot : ℕ) (old new : ViewS
   pub ends : HasSlotEnds r term slot old new result
 
 -- and where the document of one that it has lies, which is live
-abbrev pub ConfirmEnds : Reach → SoughtTerm → ℕ → ViewState → ViewState → Result (Option Part) Fault → Type 0
-ConfirmEnds r term slot old new (Ok (Some part)) =
+abbrev pub ConfirmSlotEnds : Reach → SoughtTerm → ℕ → ViewState → ViewState → Result (Option Part) Fault → Type 0
+ConfirmSlotEnds r term slot old new (Ok (Some part)) =
     (IsTrue old.base.tells → IsVouched r term new.image slot) × IsLookedAt r new slot part
-ConfirmEnds r term slot old new (Ok None) = IsSlotOwed r term old slot → ⊥
-ConfirmEnds r term slot old new (Err fault) = FaultSays r old new fault
+ConfirmSlotEnds r term slot old new (Ok None) = IsSlotOwed r term old slot → ⊥
+ConfirmSlotEnds r term slot old new (Err fault) = FaultSays r old new fault
 
 pub record ConfirmsSlot (r : Reach) (term : SoughtTerm) (slot : ℕ) (old new : ViewState)
     (result : Result (Option Part) Fault) : Type 0 where
   pub viewed : Viewed old new
-  pub ends : ConfirmEnds r term slot old new result
+  pub ends : ConfirmSlotEnds r term slot old new result

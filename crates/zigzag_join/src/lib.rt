@@ -1,12 +1,13 @@
 //! The zigzag join: the slots that several lists have in common, one after another.
 //!
 //! The lists are asked in turn for their next slot at or past the one at hand, until so many lists in turn as there are
-//! have come to one slot. Only then each is asked whether it has that slot; where all have it, it is the answer:
+//! have come to one slot. Only then each is asked whether it has that slot, the first one last; where all have it, it is
+//! the answer:
 //!
 //!     list 0: 1 4 7 9        next from 0: 1        one list has come to 1
 //!     list 1: 2 4 9          next from 1: 2        the slot is another: one list has come to 2
 //!     list 0                 next from 2: 4        one to 4
-//!     list 1                 next from 4: 4        two of two; has 0 slot 4? has 1? both: the answer is 4
+//!     list 1                 next from 4: 4        two of two; has 1 slot 4? has 0? both: the answer is 4
 //!
 //! A list may hold more than it should: whoever may write blank cells adds postings, and what a list answers then need
 //! not be a slot that all have. So a list does not tell what it has, but which slots it **must not pass**, and for
