@@ -9,11 +9,11 @@ use Rattle.volume_meaning.specs.Postings.{HasPostings, IsPostingOf, IsWordPostin
 use Rattle.volume_meaning.specs.Slots.{IsStampOf}
 use Rattle.volume_meaning.proofs.Stamps.{some_stamp, stands_given}
 use Rattle.volume_meaning.proofs.Tags.{tags_one}
+use Rattle.log_audit.proofs.Orders.{below_or_at}
 use Rattle.list_audit.specs.Keeping.{AreLedTo, KeepsTrailRule}
 use Rattle.list_audit.specs.Owing.{AllExist, AreOwed}
 use Rattle.list_audit.specs.Tables.{FitsRow, number_of}
 use Rattle.list_audit.specs.Trails.{HasTrail}
-use Rattle.list_audit.proofs.Owing.{earlier_or_last}
 
 module _ (g : Layout) (image : Image) (rows : List (ℕ × List ℕ)) where
   -- the first n of these postings have trails
@@ -32,7 +32,7 @@ module _ (g : Layout) (image : Image) (rows : List (ℕ × List ℕ)) where
       let one = said l p fits (some_row both) in
       subst (λ (k : ℕ). HasTrail g image p (list_at g k)) one.0
       (subst (λ (r : PostingFields). HasTrail g image r (list_at g list)) one.1 has))
-      (earlier_or_last i n less)
+      (below_or_at i n less)
     where
       some_row : {a b : ℕ × List ℕ} → Some a ≡ Some b → a ≡ b
       some_row e = cc

@@ -1,11 +1,9 @@
 -- Places of a block behind which all are blank.
-use Rattle.std.proofs.Common.{◌≡◌, ◌<◌, ◌≤◌, ◌+◌, ◌⊎◌, ⊎_elim, ℕ, refl, arith}
+use Rattle.std.proofs.Common.{◌≡◌, ◌<◌, ◌≤◌, ◌+◌, ⊎_elim, ℕ, refl, arith}
 use Rattle.cell_types.specs.Image.{Image}
 use Rattle.log_audit.specs.Cells.{AreBlankBetween}
 use Rattle.log_audit.proofs.Families.{AreFine, not_written}
-
-below_or_not : (k n : ℕ) → (k < n) ⊎ (n ≤ k)
-below_or_not k n = grind arith
+use Rattle.log_audit.proofs.Orders.{below_or_not}
 
 -- where those before one are fine and those from it on are blank, all are fine
 pub fine_to : {image : Image} (block : ℕ) {n from to behind : ℕ} {Fine : ℕ → Type 0} → AreFine image (λ (place : ℕ). block + place) Fine n

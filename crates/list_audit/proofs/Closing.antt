@@ -1,5 +1,5 @@
 -- The blocks of all lists, closed under their pointers.
-use Rattle.std.proofs.Common.{◌≡◌, ◌<◌, ◌≤◌, ◌+◌, ◌-◌, ◌*◌, ◌/◌, ◌%◌, ◌⊎◌, ⊎_elim, inr, ℕ, Bool, List, [], length, get_or, Some, None, refl, sym, ◌∙◌, subst, arith}
+use Rattle.std.proofs.Common.{◌≡◌, ◌<◌, ◌≤◌, ◌+◌, ◌-◌, ◌*◌, ◌/◌, ◌%◌, ⊎_elim, inr, ℕ, Bool, List, [], length, get_or, Some, None, refl, sym, ◌∙◌, subst, arith}
 use Rattle.std.specs.Prelude.{IsTrue, slice_get}
 use Rattle.std.proofs.lemmas.Bool.{cases_order}
 use Rattle.std.proofs.lemmas.Option.{slice_get_within, none-some, slice_get-get_or}
@@ -9,12 +9,10 @@ use Rattle.cell_types.specs.declared.record_cell.RecordCell.TheVariants.{Jump}
 use Rattle.volume_meaning.proofs.Holding.{one_record_holds}
 use Rattle.volume_meaning.specs.Blocks.{Leads, arrived, onwards}
 use Rattle.volume_meaning.specs.Nodes.{IsBlockOf}
+use Rattle.log_audit.proofs.Orders.{below_or_at}
 use Rattle.list_audit.specs.Blocks.{IsAmongBlocks, IsShared, IsTaken, AreTaken, PointsTo, AddsBlock, LeadsAmong, AreClosedBelow}
 use Rattle.list_audit.specs.declared.listed.ListBlock.{ListBlock}
 use Rattle.list_audit.proofs.Taking.{taken_more}
-
-earlier_or_last : (k n : ℕ) → k < n + 1 → (k < n) ⊎ (k ≡ n)
-earlier_or_last k n h = grind arith
 
 -- the first block of a list is one of its
 pub first_is : (g : Layout) (image : Image) (l : ℕ) → l < all_lists g → IsBlockOf g image l (list_at g l)
@@ -44,7 +42,7 @@ one_first {for_two} {g} {n} {block} {old} {new} are less at adds = record {
   firsts = λ l below. ⊎_elim
       (λ (earlier : l < n). taken_more adds l (list_at g l) (are.firsts l earlier))
       (λ (same : l ≡ n). subst (λ (m : ℕ). IsTaken for_two new m (list_at g m)) (sym same) (subst (IsTaken for_two new n) at adds.has))
-      (earlier_or_last l n below);
+      (below_or_at l n below);
 }
 
 pub all_first : {for_two : Bool} {g : Layout} {n : ℕ} {blocks : List ListBlock} (image : Image) → AreFirstBelow for_two g n blocks
@@ -108,7 +106,7 @@ module _ {for_two : Bool} {g : Layout} {image : Image} {n : ℕ} where
     leads = λ p t low high h. ⊎_elim
         (λ (less : p < pointer). w.leads p t low less h)
         (λ (same : p ≡ pointer). absurd (none t (subst (λ (q : ℕ). PointsTo g image (from.block + q) t) same h)))
-        (earlier_or_last p pointer high);
+        (below_or_at p pointer high);
   }
 
   -- a pointer that leads to a block, which was added
@@ -131,7 +129,7 @@ module _ {for_two : Bool} {g : Layout} {image : Image} {n : ℕ} where
         (λ (less : p < pointer). taken_more adds from.list t (w.leads p t from' less h))
         (λ (same : p ≡ pointer). subst (IsTaken for_two new from.list)
         (one_target points (subst (λ (q : ℕ). PointsTo g image (from.block + q) t) same h)) adds.has)
-        (earlier_or_last p pointer to);
+        (below_or_at p pointer to);
   }
     where
       before : (i : ℕ) (b : ListBlock) → i < n → slice_get new i ≡ Some b → slice_get old i ≡ Some b
@@ -153,7 +151,7 @@ module _ {for_two : Bool} {g : Layout} {image : Image} {n : ℕ} where
         let eq : from ≡ b = cc in
         subst (λ (c : ListBlock). IsTaken for_two blocks c.list t) eq (w.leads p t low (omega (arith, high, past))
         (subst (λ (c : ListBlock). PointsTo g image (c.block + p) t) (sym eq) h)))
-        (earlier_or_last i n less);
+        (below_or_at i n less);
   }
 
 -- no block is left for the next turn

@@ -1,7 +1,6 @@
 -- What stands in the places of a block.
 use Rattle.std.proofs.Common.{◌≡◌, ◌<◌, ◌≤◌, ◌+◌, ◌-◌, ◌⊎◌, ◌↔◌, ⊎_elim, inl, inr, ℕ, nat_lt, refl, subst, ap, arith}
 use Rattle.std.specs.Prelude.{IsTrue}
-use Rattle.std.proofs.lemmas.Bool.Decides.{nat_tests}
 use Rattle.cell_types.specs.Image.{Image}
 use Rattle.cell_types.specs.Layout.{Layout, list_at, pool_at}
 use Rattle.volume_meaning.specs.Blocks.{PostingFields, posting_record, Leads, arrived, onwards}
@@ -9,13 +8,8 @@ use Rattle.volume_meaning.specs.Nodes.{IsBlockOf}
 use Rattle.volume_meaning.proofs.Fronts.{one_posting}
 use Rattle.volume_meaning.specs.Volumes.{Holds}
 use Rattle.tamper_rules.specs.Rules.{Entries, EntryRule, HoldsInOrder, IsPlace}
+use Rattle.log_audit.proofs.Orders.{is_less, less_is}
 use Rattle.list_audit.specs.Entries.{BlockAsks}
-
-pub is_less : (a b : ℕ) → a < b → IsTrue (nat_lt a b)
-is_less a b h = grind (arith, nat_tests)
-
-pub less_is : (a b : ℕ) → IsTrue (nat_lt a b) → a < b
-less_is a b h = grind (arith, nat_tests)
 
 -- two postings that stand one behind the other are in order just where the key of the first is smaller
 pub ordered_behind : (image : Image) (block place : ℕ) (p q : PostingFields) (lower own : ℕ) → 1 ≤ place

@@ -1,5 +1,5 @@
 -- Which postings the documents of a volume are to have, slot after slot.
-use Rattle.std.proofs.Common.{◌≡◌, ◌<◌, ◌+◌, ◌↔◌, ◌⊎◌, ⊎_elim, inl, inr, ℕ, List, [], length, Option, Some, sym, ◌∙◌, subst, ap, arith}
+use Rattle.std.proofs.Common.{◌≡◌, ◌<◌, ◌+◌, ◌↔◌, ⊎_elim, inl, inr, ℕ, List, [], length, Option, Some, sym, ◌∙◌, subst, ap, arith}
 use Rattle.std.specs.Prelude.{slice_get}
 use Rattle.cell_types.specs.Image.{Image}
 use Rattle.cell_types.specs.Layout.{Layout, all_lists}
@@ -15,13 +15,11 @@ use Rattle.log_audit.specs.Logs.{IsLog}
 use Rattle.log_audit.specs.declared.log.Log.{Log}
 use Rattle.log_audit.proofs.Logged.{stores_of}
 use Rattle.log_audit.proofs.Storing.{stored_there, stored_is_live}
+use Rattle.log_audit.proofs.Orders.{below_or_at}
 use Rattle.list_audit.specs.Bodies.{AreRowsOf, HasNoRows}
 use Rattle.list_audit.specs.Owing.{IsPostingOwed, AllExist, AreOwed, KeepsPostingRule, BlockOwes}
 use Rattle.list_audit.specs.Tables.{AddsRows, AreSameRows, FitsRow, HasRow, number_of}
 use Rattle.list_audit.proofs.Trailing.{one_stamp}
-
-pub earlier_or_last : (k n : ℕ) → k < n + 1 → (k < n) ⊎ (k ≡ n)
-earlier_or_last k n h = grind arith
 
 module _ (g : Layout) (image : Image) where
   -- no slot is below 0
@@ -46,7 +44,7 @@ module _ (g : Layout) (image : Image) where
     λ owed. ⊎_elim
         (λ (earlier : owed.0.slot < n). (so_far l p fits).1 (owed.0, earlier))
         (λ (here : owed.0.slot ≡ n). absurd (none l p owed.0 here))
-        (earlier_or_last owed.0.slot n owed.1),
+        (below_or_at owed.0.slot n owed.1),
   )
 
   -- the postings of one document more exist
@@ -55,7 +53,7 @@ module _ (g : Layout) (image : Image) where
   one_exists n all here m id body less holds = ⊎_elim
       (λ (earlier : m < n). all m id body earlier holds)
       (λ (same : m ≡ n). here id body (subst (λ (k : ℕ). HoldsDocument g image k id body) same holds))
-      (earlier_or_last m n less)
+      (below_or_at m n less)
 
   -- a slot with its postings
   pub slot_more : (n : ℕ) (added : List ListedPosting) (old new : List (ℕ × List ℕ)) (id body : List ℕ) → HoldsDocument g image n id body
@@ -73,7 +71,7 @@ module _ (g : Layout) (image : Image) where
     λ owed. ⊎_elim
         (λ (earlier : owed.0.slot < n). (adds l p fits).1 (inl ((so_far l p fits).1 (owed.0, earlier))))
         (λ (here : owed.0.slot ≡ n). (adds l p fits).1 (inr (there owed.0 here)))
-        (earlier_or_last owed.0.slot n owed.1),
+        (below_or_at owed.0.slot n owed.1),
   )
     where
       there : (o : IsPostingOwed g image l p) → o.slot ≡ n → (i : ℕ) × (slice_get added i ≡ Some (record { list = l; posting = p }))

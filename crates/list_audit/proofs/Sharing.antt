@@ -11,6 +11,7 @@ use Rattle.volume_meaning.specs.Volumes.{Holds}
 use Rattle.volume_meaning.proofs.Fronts.{one_posting}
 use Rattle.tamper_rules.specs.Rules.{Entries, HoldsInOrder}
 use Rattle.log_audit.specs.Findings.{IsMetAll}
+use Rattle.log_audit.proofs.Orders.{below_or_at}
 use Rattle.list_audit.specs.Blocks.{AreBlocksForTwo, AreRising, IsAmongBlocks, IsShared}
 use Rattle.list_audit.specs.Deciding.{AreDecided, BeginsForeign, IsDecided}
 use Rattle.list_audit.specs.Numbers.{neighbour_number}
@@ -19,7 +20,7 @@ use Rattle.list_audit.specs.Tables.{FitsRow, HasRow}
 use Rattle.list_audit.specs.declared.found.ListBlocks.{ListBlocks}
 use Rattle.list_audit.specs.declared.listed.ListBlock.{ListBlock}
 use Rattle.list_audit.proofs.EachBlock.{DecideAll, asked_of}
-use Rattle.list_audit.proofs.Owing.{earlier_or_last, of_table}
+use Rattle.list_audit.proofs.Owing.{of_table}
 
 module _ (g : Layout) (image : Image) where
   -- a posting that is not of the table of what is owed is foreign to its list
@@ -58,7 +59,7 @@ module _ (g : Layout) (image : Image) (blocks : List ListBlock) where
       let one : before ≡ b = cc in
       let other : here ≡ c = cc in
       subst (λ (d : ListBlock). IsDecided g image d c) one (subst (IsDecided g image before) other is))
-      (earlier_or_last (j + 1) n less)
+      (below_or_at (j + 1) n less)
 
   -- a list that has the block stands before another, so the one right before this has the block, too
   pub has_before : AreRising blocks → (block l m : ℕ) → l < m → (a : IsAmongBlocks blocks l block) → (b : IsAmongBlocks blocks m block)
@@ -68,7 +69,7 @@ module _ (g : Layout) (image : Image) (blocks : List ListBlock) where
       let one : a.one ≡ b.one = cc in
       absurd (omega (arith, less, a.list, b.list, ap (λ (d : ListBlock). d.list) one)))
       (λ differ. ⊎_elim
-      (λ (first : a.place < b.place). behind first (earlier_or_last a.place (b.place - 1) (omega (arith, first))))
+      (λ (first : a.place < b.place). behind first (below_or_at a.place (b.place - 1) (omega (arith, first))))
       (λ (last : b.place < a.place). absurd (let r = are.rises b.place a.place b.one a.one last b.there a.there in omega (arith, r, a.list, a.is, b.list, b.is, less)))
       differ)
       (cases_order a.place b.place)

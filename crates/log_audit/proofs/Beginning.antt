@@ -11,6 +11,7 @@ use Rattle.tamper_rules.specs.Rules.{ReserveRule}
 use Rattle.log_audit.specs.Logs.{IsEnded, end_of}
 use Rattle.log_audit.specs.declared.ended.EndedSlot.{EndedSlot}
 use Rattle.log_audit.specs.declared.ended.EndedSlot.TheVariants.{Abandoned, Done}
+use Rattle.log_audit.proofs.Orders.{is_same, same_is}
 
 -- a slot that has ended so has ended
 pub has_ended : (g : Layout) (image : Image) (n : ℕ) (slot : EndedSlot) → IsEnded g image n slot → HasEnded g image image n
@@ -26,12 +27,6 @@ ended_cells g image n (Done start size bytes journal) is = (start, size, is.comm
 -- a slot reserves its cells once
 pub one_reservation : (g : Layout) (image : Image) (n a b c d : ℕ) → Reserves g image n a b → Reserves g image n c d → (a ≡ c) × (b ≡ d)
 one_reservation g image n a b c d r s = reserves a b c d (one_record_holds image (reserve_at n) (Reserve a b) (Reserve c d) r.reserve s.reserve)
-
-is_same : (a b : ℕ) → a ≡ b → IsTrue (nat_eq a b)
-is_same a b e = grind arith
-
-same_is : (a b : ℕ) → IsTrue (nat_eq a b) → a ≡ b
-same_is a b e = grind arith
 
 pub begins_there : (g : Layout) (image : Image) (n m start size : ℕ) (slot : EndedSlot) (end : ℕ) → n ≡ m + 1
     → Reserves g image n start size → IsEnded g image m slot → end ≡ end_of slot

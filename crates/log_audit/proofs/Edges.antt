@@ -1,5 +1,5 @@
 -- The edge, by the log.
-use Rattle.std.proofs.Common.{◌≡◌, ◌<◌, ◌≤◌, ◌⊎◌, ⊎_elim, ℕ, length, Option, Some, None, refl, sym, ◌∙◌, subst, arith}
+use Rattle.std.proofs.Common.{◌≡◌, ◌<◌, ◌≤◌, ⊎_elim, ℕ, length, Option, Some, None, refl, sym, ◌∙◌, subst, arith}
 use Rattle.std.specs.Prelude.{slice_get}
 use Rattle.std.proofs.lemmas.Option.{none-some}
 use Rattle.cell_types.specs.Image.{Image}
@@ -10,9 +10,7 @@ use Rattle.log_audit.specs.declared.ended.EndedSlot.{EndedSlot}
 use Rattle.log_audit.specs.declared.log.Log.{Log}
 use Rattle.log_audit.proofs.Beginning.{ended_cells, one_reservation}
 use Rattle.log_audit.proofs.Logged.{past_end}
-
-order : (a b : ℕ) → (a < b) ⊎ (b ≤ a)
-order a b = grind arith
+use Rattle.log_audit.proofs.Orders.{below_or_not}
 
 module _ (g : Layout) (image : Image) (log : Log) (is : IsLog g image log) where
   -- where the log ends there is an edge
@@ -32,7 +30,7 @@ module _ (g : Layout) (image : Image) (log : Log) (is : IsLog g image log) where
   behind : (n start size : ℕ) → Reserves g image n start size → n < length log.slots.items
   behind n start size r = ⊎_elim (λ less. less)
       (λ past. absurd (none-some r.reserve.cell (sym (is.free n past r.slot) ∙ r.reserve.stands)))
-      (order n (length log.slots.items))
+      (below_or_not n (length log.slots.items))
 
   -- and no other edge
   pub one_edge : (at : ℕ) → IsEdge g image image at → at ≡ log.edge
@@ -45,7 +43,7 @@ module _ (g : Layout) (image : Image) (log : Log) (is : IsLog g image log) where
       same = ⊎_elim
           (λ (free : edge.u < g.slots). let t = taken edge.u (edge.free free) free in let b = up edge.u edge.ends in omega (arith, t, b))
           (λ (full : g.slots ≤ edge.u). let b = up edge.u edge.ends in omega (arith, full, is.few, b))
-          (order edge.u g.slots)
+          (below_or_not edge.u g.slots)
 
       ends : (u : ℕ) → u ≡ length log.slots.items → EndsBelow g image u at → at ≡ log.edge
       ends u all e = ⊎_elim

@@ -1,15 +1,13 @@
 -- The least broken cell of a family of places, each of which asks something of a cell: found by going through the family
 -- in any order. Rules are such families: a slot's cell, or a place of a block of a list.
-use Rattle.std.proofs.Common.{◌≡◌, ◌<◌, ◌+◌, ◌⊎◌, ⊎_elim, ℕ, Some, None, sym, ◌∙◌, subst, ap, arith}
+use Rattle.std.proofs.Common.{◌≡◌, ◌<◌, ◌+◌, ⊎_elim, ℕ, Some, None, sym, ◌∙◌, subst, ap, arith}
 use Rattle.cell_types.specs.Image.{Image}
 use Rattle.cell_types.specs.Layout.{Layout}
 use Rattle.cell_types.specs.declared.refusal.Evidence.{Evidence}
 use Rattle.volume_meaning.specs.Volumes.{IsWritten}
 use Rattle.tamper_rules.specs.Rules.{Rule, IsMet, IsPlace, number_of}
 use Rattle.log_audit.specs.Findings.{IsMetAll, IsLeastBroken}
-
-below_or_at : (k n : ℕ) → k < n + 1 → (k < n) ⊎ (k ≡ n)
-below_or_at k n h = grind arith
+use Rattle.log_audit.proofs.Orders.{below_or_at}
 
 -- Of the first n places: member k asks Fine k of the cell at k, where that is written.
 abbrev pub AreFine : Image → (ℕ → ℕ) → (ℕ → Type 0) → ℕ → Type 0

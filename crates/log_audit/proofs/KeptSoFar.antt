@@ -12,7 +12,7 @@ use Rattle.worm_device.proofs.Images.{unchanged_then}
 use Rattle.log_audit.specs.Kept.{image_of_kept, count_of, IsNext, IsKeptBetween}
 use Rattle.log_audit.specs.Viewing.{shown_within}
 use Rattle.log_audit.specs.declared.kept.KeptCells.{KeptCells}
-use Rattle.log_audit.proofs.OneMore.{below_or_at}
+use Rattle.log_audit.proofs.Orders.{below_or_at}
 
 pub record KeptSoFar (old now : DeviceState) (at : ℕ) (kept : KeptCells) : Type 0 where
   pub called : Called old now

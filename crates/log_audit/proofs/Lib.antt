@@ -11,6 +11,7 @@ pub mod LogSoFar
 pub mod Logged
 pub mod Numbers
 pub mod OneMore
+pub mod Orders
 pub mod Outcomes
 pub mod Parts
 pub mod Rowed

@@ -8,7 +8,8 @@ use Rattle.volume_meaning.specs.Slots.{EndsBelow}
 use Rattle.tamper_rules.specs.Rules.{ReserveCells, ReserveRule}
 use Rattle.tamper_rules.proofs.Images.{look}
 use Rattle.tamper_rules.proofs.Settled.{ended_reserves}
-use Rattle.log_audit.proofs.OneMore.{get_before, get_last, length_pushed, below_or_at}
+use Rattle.log_audit.proofs.OneMore.{get_before, get_last, length_pushed}
+use Rattle.log_audit.proofs.Orders.{below_or_at}
 use Rattle.log_audit.proofs.Beginning.{ended_cells}
 use Rattle.log_audit.specs.Findings.{AreMetBelow}
 use Rattle.log_audit.specs.Logs.{IsEnded, FitsOnDevice, end_of, IsLog}

@@ -12,6 +12,7 @@ use Rattle.log_audit.specs.Viewing.{shown_within}
 use Rattle.log_audit.specs.declared.kept.KeptCells.{KeptCells}
 use Rattle.log_audit.specs.declared.written.TheConstants.{PAGE_CELLS}
 use Rattle.log_audit.specs.declared.written.WrittenCell.{WrittenCell}
+use Rattle.log_audit.proofs.Orders.{below_or_at}
 
 pub get_before : {A : Type 0} (xs : List A) (x : A) (k : ℕ) → k < length xs → slice_get (xs ++ x ∷ []) k ≡ slice_get xs k
 get_before xs x k h = grind (arith, common_steps, gets)
@@ -21,9 +22,6 @@ get_last xs x k h = grind (arith, common_steps, gets)
 
 pub length_pushed : {A : Type 0} (xs : List A) (x : A) → length (xs ++ x ∷ []) ≡ length xs + 1
 length_pushed xs x = length-append xs (x ∷ [])
-
-pub below_or_at : (k n : ℕ) → k < n + 1 → (k < n) ⊎ (k ≡ n)
-below_or_at k n h = grind arith
 
 -- what stands in a list with one more stood there before, or is the one
 pub get_pushed : {A : Type 0} (xs : List A) (x : A) (k : ℕ) (y : A) → slice_get (xs ++ x ∷ []) k ≡ Some y

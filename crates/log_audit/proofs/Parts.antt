@@ -1,5 +1,5 @@
 -- The least broken cell of several parts of a rule, found by going through the parts in any order.
-use Rattle.std.proofs.Common.{◌≡◌, ◌<◌, ◌≤◌, ◌+◌, ◌⊎◌, ⊎_elim, ℕ, Option, Some, None, Bool, true, false, refl, sym, subst, ap, arith}
+use Rattle.std.proofs.Common.{◌≡◌, ◌<◌, ◌≤◌, ◌+◌, ⊎_elim, ℕ, Option, Some, None, Bool, true, false, refl, sym, subst, ap, arith}
 use Rattle.std.specs.Prelude.{nat_le, if◌then◌else◌}
 use Rattle.std.proofs.lemmas.Bool.Decides.{nat_tests}
 use Rattle.cell_types.specs.Image.{Image}
@@ -10,15 +10,13 @@ use Rattle.tamper_rules.specs.Rules.{Rule, IsMet, IsPlace, number_of}
 use Rattle.log_audit.specs.Findings.{FindsBroken}
 use Rattle.log_audit.specs.Least.{IsLeastOf, FindsPart, LiesBehind, lower_finding}
 use Rattle.log_audit.proofs.Families.{AreFine}
+use Rattle.log_audit.proofs.Orders.{below_or_at}
 
 nat_le_true : (a b : ℕ) → nat_le a b ≡ true → a ≤ b
 nat_le_true a b e = grind (arith, nat_tests)
 
 nat_le_false : (a b : ℕ) → nat_le a b ≡ false → b < a
 nat_le_false a b e = grind (arith, nat_tests)
-
-earlier_or_last : (k n : ℕ) → k < n + 1 → (k < n) ⊎ (k ≡ n)
-earlier_or_last k n h = grind arith
 
 -- what the first n of a row of parts ask of a cell
 abbrev pub AskedBelow : (ℕ → ℕ → Type 0) → ℕ → ℕ → Type 0
@@ -92,7 +90,7 @@ module _ (g : Layout) (image : Image) (rule : Rule) where
       (λ cell both part less. ⊎_elim
       (λ (earlier : part < n). both.0 part earlier)
       (λ (same : part ≡ n). subst (λ (k : ℕ). Asked k cell) (sym same) both.1)
-      (earlier_or_last part n less))
+      (below_or_at part n less))
       (λ cell each. (λ part less. each part (omega (arith, less)), each n (omega arith)))
 
   -- a part that asks nothing before a cell behind what was found
@@ -108,7 +106,7 @@ module _ (g : Layout) (image : Image) (rule : Rule) where
     below = λ cell less written part before. ⊎_elim
         (λ (earlier : part < n). finds.below cell less written part earlier)
         (λ (same : part ≡ n). subst (λ (k : ℕ). Asked k cell) (sym same) (nothing cell (omega (arith, less, behind))))
-        (earlier_or_last part n before);
+        (below_or_at part n before);
   }
 
   -- what asks no more and no less than the rule finds for the rule

@@ -28,7 +28,8 @@
 //! `specs/Findings.antt` says what a check of any rule finds, and `specs/KeptVolumes.antt` says it of such a volume. Some
 //! rules ask the same of each of many blocks or nodes, which may meet and come in any order: `lower_of` joins what was
 //! found at one with what was found at the next, and `specs/Least.antt` says why the last of them is the least of all.
-//! Overlaps are found in sorted numbers: `sort_once` sorts, and `has_between` searches by bisection.
+//! Overlaps are found in sorted numbers: `sort_once` sorts, and `place_of`, `lower_than` and `has_between` search by
+//! bisection.
 //!
 //! The cells are read once, in rising order, and kept in memory: `keeping.rt` says how, and what that costs.
 //!
@@ -69,6 +70,6 @@ pub use log::{Log, log_of};
 pub use looks::{lies_in_pool, record_at, reservation};
 pub use lower::{lies_behind, lower_of};
 pub use shown::Shown;
-pub use sorted::{has_between, numbers_of, sort_once};
+pub use sorted::{has_between, lower_than, numbers_of, place_of, sort_once};
 pub use stored::StoredSlot;
 pub use written::WrittenCell;

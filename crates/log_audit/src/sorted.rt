@@ -1,9 +1,9 @@
-//! Numbers in order.
-ghost use Rattle.std.specs.Prelude.{◌≡◌, ◌↔◌, ℕ, Contains, IfOk, IsTrue, true};
+//! Numbers in order, and places among them, found by bisection.
+ghost use Rattle.std.specs.Prelude.{◌≡◌, ◌↔◌, ℕ, slice_get, Contains, IfNone, IfOk, IfSome, IsTrue, Some, true};
 ghost use Rattle.std.specs.BTreeSet.{contains};
 ghost use Rattle.std.specs.List.Sorted.{IsStrictlyIncreasing};
 ghost use Rattle.std.specs.Ordering.{nat_cmp};
-ghost use Rattle.log_audit.specs.Between.{HasBetween};
+ghost use Rattle.log_audit.specs.Between.{AreLower, HasBetween};
 
 use cell_types::{NoMemory, memory};
 use std::alloc::Global;
@@ -32,24 +32,34 @@ pub fn numbers_of(alloc: Global, set: &BTreeSet<u64>) -> Result<Vec<u64>, NoMemo
     Ok(numbers)
 }
 
-/// Whether one of the numbers lies from `low` on and below `high`: found by bisection.
+/// The place of a number among these, which rise, if it is there.
+pub fn place_of(numbers: &[u64], number: u64) -> Option<usize>
+    requires { IsStrictlyIncreasing numbers.now }
+    ensures some { IfSome result (λ place. slice_get numbers.now place ≡ Some number) }
+    ensures none { IfNone result (Contains numbers.now number → ⊥) }
+{
+    match numbers.binary_search(&number) {
+        Ok(place) => Some(place),
+        Err(_) => None,
+    }
+}
+
+/// How many of these numbers, which rise, are lower than this one.
+pub fn lower_than(numbers: &[u64], number: u64) -> usize
+    requires { IsStrictlyIncreasing numbers.now }
+    ensures { AreLower numbers.now number result }
+{
+    match numbers.binary_search(&number) {
+        Ok(place) => place,
+        Err(place) => place,
+    }
+}
+
+/// Whether one of these numbers, which rise, lies from `low` on and below `high`.
 pub fn has_between(numbers: &[u64], low: u64, high: u64) -> bool
     requires { IsStrictlyIncreasing numbers.now }
     ensures { IsTrue result ↔ HasBetween numbers.now low high }
 {
-    let mut from = 0;
-    let mut to = numbers.len();
-    while from < to {
-        let middle = from + (to - from) / 2;
-        let number = numbers[middle];
-        if number < low {
-            from = middle + 1;
-            continue;
-        }
-        if number < high {
-            return true;
-        }
-        to = middle;
-    }
-    false
+    let place = lower_than(numbers, low);
+    place < numbers.len() && numbers[place] < high
 }

@@ -7,10 +7,8 @@ use Rattle.std.specs.Map.{lookup}
 use Rattle.std.proofs.lemmas.Bool.{cases_order, cases_eq}
 use Rattle.std.proofs.lemmas.Grind.{common_steps}
 use Rattle.std.proofs.lemmas.Option.{none-some}
+use Rattle.log_audit.proofs.Orders.{below_or_not}
 use Rattle.slot_audit.specs.Tables.{Follow, ended, tile, LieWithin}
-
-split : (a b : ℕ) → (a < b) ⊎ (b ≤ a)
-split a b = grind arith
 
 one_value : (sizes : ℕ → Option ℕ) (t z w : ℕ) → sizes t ≡ Some z → sizes t ≡ Some w → z ≡ w
 one_value sizes t z w a b = let e : Some z ≡ Some w = sym a ∙ b in cc
@@ -41,7 +39,7 @@ module _ (sizes : ℕ → Option ℕ) (to : ℕ) where
       (λ above. ⊎_elim
       (λ (within : t < a + size). absurd (none t z above within stands))
       (λ (past : a + size ≤ t). behind_each (a + size) rest t z stands past below)
-      (split t (a + size)))
+      (below_or_not t (a + size)))
       differ)
       (cases_order t a)
 

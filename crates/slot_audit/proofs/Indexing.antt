@@ -1,5 +1,5 @@
 -- Index cells, before the pool and in it.
-use Rattle.std.proofs.Common.{◌≡◌, ◌<◌, ◌≤◌, ◌+◌, ◌-◌, ◌/◌, ◌⊎◌, ◌↔◌, ⊎_elim, ℕ, min, nat_le, arith}
+use Rattle.std.proofs.Common.{◌≡◌, ◌<◌, ◌≤◌, ◌+◌, ◌-◌, ◌/◌, ◌↔◌, ⊎_elim, ℕ, min, nat_le, arith}
 use Rattle.std.specs.Prelude.{IsTrue}
 use Rattle.std.proofs.lemmas.Bool.Decides.{nat_tests}
 use Rattle.cell_types.specs.Image.{Image}
@@ -8,15 +8,13 @@ use Rattle.tamper_rules.specs.Journals.{LiesInBlocks, IsIndexCell, of_list, of_r
 use Rattle.tamper_rules.specs.Rules.{ReserveCells}
 use Rattle.log_audit.specs.Findings.{IsMetAll}
 use Rattle.log_audit.proofs.Logged.{one_slot}
+use Rattle.log_audit.proofs.Orders.{below_or_not}
 
 is_most : (a b : ℕ) → a ≤ b → IsTrue (nat_le a b)
 is_most a b h = grind (arith, nat_tests)
 
 most_is : (a b : ℕ) → IsTrue (nat_le a b) → a ≤ b
 most_is a b h = grind (arith, nat_tests)
-
-split : (a b : ℕ) → (a < b) ⊎ (b ≤ a)
-split a b = grind arith
 
 -- a volume has one time list at most
 one_time : (n : ℕ) → min 1 n ≤ 1
@@ -35,8 +33,8 @@ below_pool g image n cell from less = ⊎_elim
     (λ (root : cell < root_at g + 32). of_root (record { exists = tt; from = high; below = omega (arith, root) }))
     (λ (past : root_at g + 32 ≤ cell). let one : time_lists g ≤ 1 = one_time _ in of_list g.lists
     (record { exists = omega (arith, less, past, one); from = omega (arith, past); below = omega (arith, less, one) }))
-    (split cell (root_at g + 32)))
-    (split cell (root_at g))
+    (below_or_not cell (root_at g + 32)))
+    (below_or_not cell (root_at g))
 
 pub before_pool : (g : Layout) (image : Image) (n cell : ℕ) → cell < pool_at g
     → (IsTrue (nat_le (lists_at g) cell) ↔ IsIndexCell g image n cell)

@@ -1,5 +1,5 @@
 -- The cells that journals name, slot after slot and place after place.
-use Rattle.std.proofs.Common.{◌≡◌, ◌<◌, ◌≤◌, ◌+◌, ◌++◌, ◌^◌, ◌⊎◌, ⊎_elim, inl, inr, ℕ, List, [], ◌∷◌, sym, ◌∙◌, subst, arith}
+use Rattle.std.proofs.Common.{◌≡◌, ◌<◌, ◌≤◌, ◌+◌, ◌++◌, ◌^◌, ⊎_elim, inl, inr, ℕ, List, [], ◌∷◌, sym, ◌∙◌, subst, arith}
 use Rattle.std.specs.Prelude.{Contains}
 use Rattle.std.specs.List.Sorted.{IsNonDecreasing, IsPermutation}
 use Rattle.std.proofs.lemmas.List.Sorted.{Contains-permutation, IsPermutation-sym}
@@ -11,14 +11,12 @@ use Rattle.tamper_rules.specs.Journals.{journal_at, IsNamed}
 use Rattle.log_audit.specs.Stored.{IsStored}
 use Rattle.log_audit.specs.declared.stored.StoredSlot.{StoredSlot}
 use Rattle.log_audit.proofs.Storing.{one_row}
+use Rattle.log_audit.proofs.Orders.{below_or_at}
 use Rattle.slot_audit.specs.Copying.{HasTarget}
 use Rattle.slot_audit.proofs.Ordering.{copies, has_target}
 use Rattle.slot_audit.specs.Strays.{AreNamed, NamesInJournal}
 use Rattle.slot_audit.specs.Targets.{NamesWithin, AddsTargets}
 use Rattle.slot_audit.specs.declared.named.NamedCells.{NamedCells}
-
-below_or_at : (k n : ℕ) → k < n + 1 → (k < n) ⊎ (k ≡ n)
-below_or_at k n h = grind arith
 
 module _ (image : Image) (s : StoredSlot) where
   -- no place yet

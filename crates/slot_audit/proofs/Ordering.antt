@@ -1,7 +1,6 @@
 -- Journal cells in order.
 use Rattle.std.proofs.Common.{◌≡◌, ◌<◌, ◌≤◌, ◌+◌, ◌-◌, ◌^◌, ◌↔◌, ⊎_elim, inr, ℕ, nat_lt, sym, ◌∙◌, subst, ap, arith}
 use Rattle.std.specs.Prelude.{IsTrue}
-use Rattle.std.proofs.lemmas.Bool.Decides.{nat_tests}
 use Rattle.cell_types.specs.Image.{Image}
 use Rattle.cell_types.specs.Layout.{Layout}
 use Rattle.cell_types.specs.Records.{IsRecordCell}
@@ -12,6 +11,7 @@ use Rattle.volume_meaning.proofs.Holding.{some_is}
 use Rattle.tamper_rules.specs.Journals.{journal_at, CopiesIndexCell, IsIndexCell}
 use Rattle.recovery_engine.specs.Entries.{target_of}
 use Rattle.log_audit.specs.declared.stored.StoredSlot.{StoredSlot}
+use Rattle.log_audit.proofs.Orders.{is_less, less_is}
 use Rattle.slot_audit.specs.Copying.{HasTarget}
 use Rattle.slot_audit.specs.Journals.{IsOrdered, TargetRises, journal_cell}
 
@@ -47,12 +47,6 @@ copies below small h = record {
 pub moved : (image : Image) (from to place target : ℕ) → from ≡ to → HasTarget image (from + place) target
     → HasTarget image (to + place) target
 moved image from to place target same h = subst (λ (k : ℕ). HasTarget image (k + place) target) same h
-
-is_less : (a b : ℕ) → a < b → IsTrue (nat_lt a b)
-is_less a b h = grind (arith, nat_tests)
-
-less_is : (a b : ℕ) → IsTrue (nat_lt a b) → a < b
-less_is a b h = grind (arith, nat_tests)
 
 -- behind another place
 pub rises_there : (image : Image) (s : StoredSlot) (place target lower : ℕ) → 1 ≤ place → place < s.journal

@@ -1,5 +1,5 @@
 -- Which cells are of the index, and where the edge is, by the log.
-use Rattle.std.proofs.Common.{◌≡◌, ◌<◌, ◌≤◌, ◌+◌, ◌-◌, ◌/◌, ◌⊎◌, ⊎_elim, inr, ℕ, arith}
+use Rattle.std.proofs.Common.{◌≡◌, ◌<◌, ◌≤◌, ◌+◌, ◌-◌, ◌/◌, ⊎_elim, inr, ℕ, arith}
 use Rattle.cell_types.specs.Image.{Image}
 use Rattle.cell_types.specs.Layout.{Layout, all_lists, lists_at, root_at, pool_at}
 use Rattle.tamper_rules.specs.Journals.{LiesInBlocks, IsNamed}
@@ -8,10 +8,8 @@ use Rattle.log_audit.specs.Logs.{IsLog}
 use Rattle.log_audit.specs.declared.log.Log.{Log}
 use Rattle.log_audit.proofs.Logged.{stores_of}
 use Rattle.log_audit.proofs.Edges.{one_edge}
+use Rattle.log_audit.proofs.Orders.{below_or_not}
 use Rattle.slot_audit.specs.Strays.{IsExpected}
-
-order : (a b : ℕ) → (a < b) ⊎ (b ≤ a)
-order a b = grind arith
 
 -- each cell between the slots' and the pool is one of the index
 pub in_first_parts : (g : Layout) (image : Image) (cell : ℕ) → lists_at g ≤ cell → cell < pool_at g → IsDoneIndexCell g image cell
@@ -28,8 +26,8 @@ in_first_parts g image cell from below = ⊎_elim
       from = omega (arith, time, below);
       below = omega (arith, time, below);
     }))
-    (order cell (root_at g + 32)))
-    (order cell (root_at g))
+    (below_or_not cell (root_at g + 32)))
+    (below_or_not cell (root_at g))
 
 -- no cell before them is
 pub not_before : (g : Layout) (image : Image) (cell : ℕ) → IsDoneIndexCell g image cell → lists_at g ≤ cell

@@ -1,5 +1,5 @@
 -- The greatest stamp of the done slots below one.
-use Rattle.std.proofs.Common.{rules, ◌≡◌, ◌<◌, ◌≤◌, ◌+◌, ◌⊎◌, ⊎_elim, ℕ, max, Option, Some, None, subst, true, nat_lt, arith}
+use Rattle.std.proofs.Common.{◌≡◌, ◌<◌, ◌≤◌, ◌+◌, ◌⊎◌, ⊎_elim, ℕ, max, Option, Some, None, subst, true, nat_lt, arith}
 use Rattle.std.specs.Prelude.{IsTrue}
 use Rattle.cell_types.specs.Image.{Image}
 use Rattle.cell_types.specs.Layout.{Layout, TakesStamps, spare_at, reserve_at}
@@ -11,21 +11,13 @@ use Rattle.tamper_rules.specs.Rules.{IsTrueStamp}
 use Rattle.log_audit.proofs.Deciding.{yes}
 use Rattle.log_audit.specs.Stored.{IsStored}
 use Rattle.log_audit.specs.declared.stored.StoredSlot.{StoredSlot}
+use Rattle.log_audit.proofs.Orders.{below_or_at, is_less, less_is}
 use Rattle.slot_audit.specs.Strays.{IsLatest}
-
-below_or_at : (k n : ℕ) → k < n + 1 → (k < n) ⊎ (k ≡ n)
-below_or_at k n h = grind arith
 
 -- a slot has one stamp
 pub one_stamp : {image : Image} (n : ℕ) {a b : ℕ} → HasStamp image n a → HasStamp image n b → a ≡ b
 one_stamp {image} n {a} {b} x y =
     let same : Stamp a ≡ Stamp b = one_record_holds image (spare_at n) (Stamp a) (Stamp b) x y in cc
-
-less_of : (a b : ℕ) → IsTrue (nat_lt a b) → a < b
-less_of a b h = search rules
-
-less_is : (a b : ℕ) → a < b → IsTrue (nat_lt a b)
-less_is a b h = search rules
 
 -- a stored slot is done
 pub done_stored : {g : Layout} {image : Image} {s : StoredSlot} {n : ℕ} → IsStored g image s → s.slot ≡ n → IsDoneSlot g image n
@@ -114,9 +106,9 @@ module _ (g : Layout) (image : Image) (n : ℕ) where
         seconds = own;
         stamp = stamp;
         rises = λ m lower less done has.
-            let most = is.1 m lower less done has in omega (arith, most, less_of latest own greater);
+            let most = is.1 m lower less done has in omega (arith, most, less_is latest own greater);
       },
       λ rule.
           let rises = rule.rises is.0.0 latest is.0.1 is.0.2 is.0.3 in
-          less_is latest own (omega (arith, rises, one_stamp n rule.stamp stamp)),
+          is_less latest own (omega (arith, rises, one_stamp n rule.stamp stamp)),
     )

@@ -1,5 +1,5 @@
 -- The written cells one after another: those before a place are expected.
-use Rattle.std.proofs.Common.{◌≡◌, ◌<◌, ◌≤◌, ◌+◌, ◌⊎◌, ⊎_elim, inl, inr, ℕ, List, length, Some, None, sym, ◌∙◌, subst, ap, arith}
+use Rattle.std.proofs.Common.{◌≡◌, ◌<◌, ◌≤◌, ◌+◌, ⊎_elim, inl, inr, ℕ, List, length, Some, None, sym, ◌∙◌, subst, ap, arith}
 use Rattle.std.specs.Prelude.{slice_get}
 use Rattle.std.proofs.lemmas.Option.{slice_get_within}
 use Rattle.cell_types.specs.Image.{Image}
@@ -12,18 +12,13 @@ use Rattle.log_audit.specs.declared.written.WrittenCell.{WrittenCell}
 use Rattle.log_audit.specs.Least.{FindsPart, IsLeastOf}
 use Rattle.log_audit.specs.Logs.{IsLog}
 use Rattle.log_audit.specs.declared.log.Log.{Log}
+use Rattle.log_audit.proofs.Orders.{below_or_at, below_or_not}
 use Rattle.slot_audit.specs.Strays.{IsExpected}
 use Rattle.slot_audit.proofs.Regions.{expected_first, expected_slots}
 
 -- the written cells before this place are expected
 abbrev pub AreExpected : Layout → Image → List WrittenCell → ℕ → Type 0
 AreExpected g image rows place = (k : ℕ) (row : WrittenCell) → slice_get rows k ≡ Some row → k < place → IsExpected g image row.number
-
-below_or_at : (k n : ℕ) → k < n + 1 → (k < n) ⊎ (k ≡ n)
-below_or_at k n h = grind arith
-
-order : (a b : ℕ) → (a < b) ⊎ (b ≤ a)
-order a b = grind arith
 
 pub none_yet : (g : Layout) (image : Image) (rows : List WrittenCell) → AreExpected g image rows 0
 none_yet g image rows k row stands less = absurd (omega (arith, less))
@@ -56,9 +51,9 @@ in_place g image log is cell inside not = ⊎_elim
     (λ (more : 4 ≤ cell). ⊎_elim
     (λ (slots : cell < lists_at g). absurd (not (expected_slots g image log is cell more slots)))
     (λ (lists : lists_at g ≤ cell). inr (inr (lists, inside)))
-    (order cell (lists_at g)))
-    (order cell 4))
-    (order cell 1)
+    (below_or_not cell (lists_at g)))
+    (below_or_not cell 4))
+    (below_or_not cell 1)
 
 -- the first that is not
 pub first_not : {g : Layout} {count : ℕ} (log : Log) (rows : List WrittenCell) {place : ℕ} (row : WrittenCell) (e : Evidence)
@@ -82,7 +77,7 @@ first_not {g} {count} log rows {place} row e is are all so_far stands not number
       absurd (omega (arith, ap (λ (r : WrittenCell). r.number) one, w.3, less, cell)))
       (λ (later : place + 1 ≤ w.0). let rises = are.rising place w.0 row w.1 stands w.2 (omega (arith, later)) in
       absurd (omega (arith, rises, w.3, less, cell)))
-      (order w.0 (place + 1)))
-      (order w.0 place) in
+      (below_or_not w.0 (place + 1)))
+      (below_or_not w.0 place) in
       subst (IsExpected g (shown_by rows)) w.3 (so_far w.0 w.1 w.2 before);
 }

@@ -11,15 +11,13 @@ use Rattle.volume_meaning.specs.Documents.{document_at}
 use Rattle.tamper_rules.specs.Journals.{journal_at}
 use Rattle.tamper_rules.specs.Rules.{IsSize, TilingRule}
 use Rattle.log_audit.specs.declared.stored.StoredSlot.{StoredSlot}
+use Rattle.log_audit.proofs.Orders.{below_or_at}
 use Rattle.slot_audit.specs.Tables.{HaveTargets, HasAtLeast, IsLedByJournal, IsInOwnBlocks, IsTable, IsWithTile, Follow, ended, tile, LieWithin}
 use Rattle.slot_audit.specs.Tiles.{HasTile}
 use Rattle.slot_audit.specs.Walks.{IsOwnTarget, WalksTiles, over, next}
 use Rattle.slot_audit.specs.declared.tile.Tile.{Tile}
 use Rattle.slot_audit.proofs.Leading.{jump_led, child_led, led_by, one_tile}
 use Rattle.slot_audit.proofs.Tiling.{walks_tell}
-
-below_or_at : (k n : ℕ) → k < n + 1 → (k < n) ⊎ (k ≡ n)
-below_or_at k n h = grind arith
 
 one_value : (sizes : ℕ → Option ℕ) (t z w : ℕ) → sizes t ≡ Some z → sizes t ≡ Some w → z ≡ w
 one_value sizes t z w a b = let e : Some z ≡ Some w = sym a ∙ b in cc

@@ -8,7 +8,7 @@ use Rattle.cell_types.specs.Layout.{Layout, IsLayout, root_at}
 use Rattle.cell_types.specs.declared.record_cell.RecordCell.TheVariants.{Child}
 use Rattle.volume_meaning.specs.Nodes.{IsNode, root, under}
 use Rattle.volume_meaning.proofs.Holding.{one_record_holds}
-use Rattle.log_audit.proofs.OneMore.{below_or_at}
+use Rattle.log_audit.proofs.Orders.{below_or_at}
 use Rattle.tree_audit.specs.ChildCells.{HasChildInPool, IsLastPlace}
 use Rattle.tree_audit.specs.Nodes.{IsTarget, AddsChildTargets, IsUnder, AreUnder, AreOnLevel}
 

@@ -13,7 +13,7 @@ use Rattle.cell_types.specs.Layout.{Layout, IsLayout}
 use Rattle.cell_types.specs.declared.record_cell.RecordCell.TheVariants.{Child}
 use Rattle.volume_meaning.specs.Nodes.{IsNode, root, under}
 use Rattle.volume_meaning.specs.Volumes.{Holds}
-use Rattle.log_audit.proofs.OneMore.{below_or_at}
+use Rattle.log_audit.proofs.Orders.{below_or_at}
 use Rattle.list_audit.proofs.Taking.{kept_number, more_numbers, same_number}
 use Rattle.tree_audit.specs.Nodes.{AddsRow, AreNodesInside, AreOnLevel, AreUnder, IsSomeNode, IsTarget}
 use Rattle.tree_audit.specs.Numbers.{AreAll}

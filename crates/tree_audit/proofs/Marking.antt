@@ -9,7 +9,7 @@ use Rattle.cell_types.specs.Layout.{Layout, IsLayout, root_at}
 use Rattle.cell_types.specs.declared.record_cell.RecordCell.TheVariants.{Child}
 use Rattle.volume_meaning.specs.Nodes.{IsNode, root, under}
 use Rattle.volume_meaning.specs.Volumes.{Holds}
-use Rattle.log_audit.proofs.OneMore.{below_or_at}
+use Rattle.log_audit.proofs.Orders.{below_or_at}
 use Rattle.tree_audit.specs.ChildCells.{IsLeadAmong, lead_number}
 use Rattle.tree_audit.specs.Marks.{AreAmong, AreBehindLast, AreMarked, AreMarkedUnder, IsBehindLast, IsLedTo, IsMarked}
 use Rattle.tree_audit.specs.Nodes.{IsSomeNode}

@@ -7,13 +7,11 @@ use Rattle.volume_meaning.specs.Nodes.{AreApart}
 use Rattle.log_audit.specs.Between.{HasBetween}
 use Rattle.log_audit.proofs.Deciding.{no, yes}
 use Rattle.list_audit.specs.Numbers.{neighbour_number}
+use Rattle.log_audit.proofs.Orders.{below_or_not}
 use Rattle.tree_audit.specs.Nodes.{IsSomeNode}
 use Rattle.tree_audit.specs.Numbers.{AreAll}
 use Rattle.tree_audit.specs.Occupied.{IsAlone, IsOffNodes}
 use Rattle.tree_audit.proofs.Occupying.{AreTold}
-
-order : (a b : ℕ) → (a < b) ⊎ (b ≤ a)
-order a b = grind arith
 
 -- one of the same numbers
 pub between_same : {xs ys : List ℕ} {low high : ℕ} → xs ≡ ys → HasBetween xs low high → HasBetween ys low high
@@ -88,10 +86,10 @@ module _ (g : Layout) (image : Image) {numbers : List ℕ} (are : AreTold g imag
             (λ (after : next ≤ neighbour_number m other). ⊎_elim
             (λ (within : neighbour_number m other < behind). absurd (upper (record { number = neighbour_number m other; there = there; from = after; below = within })))
             (λ (far : behind ≤ neighbour_number m other). inr (inl (omega (arith, far, e, under))))
-            (order (neighbour_number m other) behind))
-            (order (neighbour_number m other) next))
-            (order (neighbour_number m other) own))
-            (order (neighbour_number m other) first)
+            (below_or_not (neighbour_number m other) behind))
+            (below_or_not (neighbour_number m other) next))
+            (below_or_not (neighbour_number m other) own))
+            (below_or_not (neighbour_number m other) first)
 
 module _ (g : Layout) (image : Image) {nodes : List ℕ} (are : AreAll (IsSomeNode g image) nodes) (target : ℕ) (room : 256 ≤ target) where
   -- a node in reach
@@ -108,5 +106,5 @@ module _ (g : Layout) (image : Image) {nodes : List ℕ} (are : AreAll (IsSomeNo
       (λ (above : from ≤ node). ⊎_elim
       (λ (within : node < to). absurd (none (record { number = node; there = (are.each node).1 (level, is_node); from = above; below = within })))
       (λ (far : to ≤ node). inl (omega (arith, far, behind)))
-      (order node to))
-      (order node from))
+      (below_or_not node to))
+      (below_or_not node from))

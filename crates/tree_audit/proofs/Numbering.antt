@@ -6,7 +6,7 @@ use Rattle.std.proofs.lemmas.List.Elements.{Contains-append_left, Contains-push,
 use Rattle.std.proofs.lemmas.Option.{get_or_from_slice_get, same_Some, slice_get_within, slice_get-get_or}
 use Rattle.cell_types.specs.Image.{Image}
 use Rattle.cell_types.specs.Layout.{Layout}
-use Rattle.log_audit.proofs.OneMore.{below_or_at}
+use Rattle.log_audit.proofs.Orders.{below_or_at}
 use Rattle.tree_audit.specs.ChildCells.{HasChildInPool, IsLastPlace, IsLeadAmong, IsLeadOf, lead_number}
 use Rattle.tree_audit.specs.Marks.{AreMarked}
 use Rattle.tree_audit.specs.Nodes.{AreNodes, IsSomeNode}

@@ -1,5 +1,5 @@
 -- In the block part of one slot.
-use Rattle.std.proofs.Common.{◌≡◌, ◌+◌, ℕ, nat_eq, sym, ◌∙◌, subst, arith}
+use Rattle.std.proofs.Common.{◌≡◌, ◌+◌, ℕ, nat_eq, sym, ◌∙◌, subst}
 use Rattle.std.specs.Prelude.{◌↔◌, IsTrue}
 use Rattle.cell_types.specs.Image.{Image}
 use Rattle.cell_types.specs.Layout.{Layout}
@@ -9,13 +9,8 @@ use Rattle.log_audit.specs.Findings.{IsMetAll}
 use Rattle.log_audit.specs.Logs.{IsLog}
 use Rattle.log_audit.specs.declared.log.Log.{Log}
 use Rattle.log_audit.proofs.Holders.{log_in_row, one_holder, owner_holds}
+use Rattle.log_audit.proofs.Orders.{is_same, same_is}
 use Rattle.tree_audit.specs.Leading.{IsOwned}
-
-is_same : (a b : ℕ) → a ≡ b → IsTrue (nat_eq a b)
-is_same a b e = grind arith
-
-same_is : (a b : ℕ) → IsTrue (nat_eq a b) → a ≡ b
-same_is a b e = grind arith
 
 module _ {g : Layout} {image : Image} {log : Log} (met : IsMetAll g image ReserveCells) (is : IsLog g image log) where
   -- a cell lies in the block part of one slot at most

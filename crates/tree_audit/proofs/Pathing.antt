@@ -6,7 +6,7 @@ use Rattle.cell_types.specs.declared.record_cell.RecordCell.TheVariants.{Child}
 use Rattle.volume_meaning.specs.HashPaths.{nibble}
 use Rattle.volume_meaning.specs.Nodes.{IsOnPath, root, under}
 use Rattle.volume_meaning.specs.Volumes.{Holds}
-use Rattle.log_audit.proofs.OneMore.{below_or_at}
+use Rattle.log_audit.proofs.Orders.{below_or_at}
 use Rattle.tree_audit.specs.ChildCells.{HasChildInPool}
 use Rattle.tree_audit.specs.Paths.{GoesBy}
 use Rattle.tree_audit.proofs.Closing.{one_target}

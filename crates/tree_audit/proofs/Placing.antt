@@ -1,73 +1,17 @@
 -- Places among numbers that rise, and the ways of child cells.
-use Rattle.std.proofs.Common.{◌≡◌, ◌<◌, ◌≤◌, ◌+◌, ◌-◌, ◌/◌, ◌↔◌, ◌⊎◌, ◌++◌, ⊎_elim, inl, inr, ℕ, List, [], ◌∷◌, length, get_or, Some, refl, sym, ◌∙◌, subst, ap, arith}
-use Rattle.std.specs.Prelude.{Result, Ok, Err, slice_get, slice_index, Contains}
-use Rattle.std.specs.List.Sorted.{IsBinarySearchResult, IsStrictlyIncreasing}
-use Rattle.std.specs.Ordering.{nat_cmp}
+use Rattle.std.proofs.Common.{◌≡◌, ◌<◌, ◌≤◌, ◌+◌, ◌-◌, ◌/◌, ◌↔◌, ◌⊎◌, ◌++◌, ⊎_elim, inl, inr, ℕ, List, [], ◌∷◌, length, Some, refl, sym, ◌∙◌, subst, ap, arith}
+use Rattle.std.specs.Prelude.{slice_get, slice_index, Contains}
+use Rattle.std.specs.List.Sorted.{IsStrictlyIncreasing}
 use Rattle.std.proofs.lemmas.Bool.{cases_order}
-use Rattle.std.proofs.lemmas.List.Kept.{AllPairs-from_increasing}
-use Rattle.std.proofs.lemmas.List.Sorted.{searched}
 use Rattle.std.proofs.lemmas.Option.{get_or_from_slice_get, same_Some, slice_get_within}
-use Rattle.log_audit.proofs.OneMore.{below_or_at, get_before, get_last, get_pushed}
+use Rattle.log_audit.specs.Between.{AreLower}
+use Rattle.log_audit.proofs.Bisecting.{rises}
+use Rattle.log_audit.proofs.OneMore.{get_before, get_last, get_pushed}
+use Rattle.log_audit.proofs.Orders.{below_or_at, below_or_not}
 use Rattle.tree_audit.specs.ChildCells.{IsChildPlace}
-use Rattle.tree_audit.specs.Ways.{AreLower, AreWays, BeginsAt, HasWay, IsWayAmong, IsWayOf}
+use Rattle.tree_audit.specs.Ways.{AreWays, BeginsAt, HasWay, IsWayAmong, IsWayOf}
 use Rattle.tree_audit.specs.declared.child_cells.TheConstants.{TARGET_STEP}
 use Rattle.tree_audit.specs.declared.ways.Way.{Way}
-use Rattle.tree_audit.proofs.Closing.{same_default}
-
-below_or_not : (a b : ℕ) → (a < b) ⊎ (b ≤ a)
-below_or_not a b = ⊎_elim
-    (λ (same : a ≡ b). inr (omega (arith, same)))
-    (λ differ. ⊎_elim (λ (less : a < b). inl less) (λ (more : b < a). inr (omega (arith, more))) differ)
-    (cases_order a b)
-
-rises : (numbers : List ℕ) → IsStrictlyIncreasing numbers → (a b : ℕ) → a < b → b < length numbers → slice_index numbers a < slice_index numbers b
-rises numbers rising a b less inside = AllPairs-from_increasing numbers rising a b 0 less inside
-
--- numbers that rise never fall
-rises_to : (numbers : List ℕ) → IsStrictlyIncreasing numbers → (a b : ℕ) → a ≤ b → b < length numbers → slice_index numbers a ≤ slice_index numbers b
-rises_to numbers rising a b low inside = ⊎_elim
-    (λ (same : a ≡ b). omega (arith, ap (slice_index numbers) same))
-    (λ differ. ⊎_elim
-    (λ (less : a < b). let e = rises numbers rising a b less inside in omega (arith, e))
-    (λ (more : b < a). absurd (omega (arith, more, low)))
-    differ)
-    (cases_order a b)
-
--- what a search of them finds, and what it says of a number that is not there
-module _ (numbers : List ℕ) (number : ℕ) (rising : IsStrictlyIncreasing numbers) {r : Result ℕ ℕ} {place : ℕ}
-    (position : IsBinarySearchResult (λ (y : ℕ). nat_cmp y number) numbers r) where
-  pub found : r ≡ Ok place → (place < length numbers) × (slice_index numbers place ≡ number)
-  found is = searched numbers number (Ok place) (subst (λ (s : Result ℕ ℕ). IsBinarySearchResult (λ (y : ℕ). nat_cmp y number) numbers s) is position)
-      (rises_to numbers rising)
-
-  missed : r ≡ Err place
-      → (place ≤ length numbers) × ((k : ℕ) → k < place → get_or numbers k 0 < number) × ((k : ℕ) → place ≤ k → k < length numbers → number < get_or numbers k 0)
-  missed is = searched numbers number (Err place) (subst (λ (s : Result ℕ ℕ). IsBinarySearchResult (λ (y : ℕ). nat_cmp y number) numbers s) is position)
-      (rises_to numbers rising)
-
-  -- the lower ones stand before it
-  pub lower_found : r ≡ Ok place → AreLower numbers number place
-  lower_found is = let at = found is in record {
-    inside = omega (arith, at.0);
-    lower = λ k less. let e = rises numbers rising k place less at.0 in omega (arith, e, at.1);
-    rest = λ k from to. let e = rises_to numbers rising place k from to in omega (arith, e, at.1);
-  }
-
-  pub lower_missed : r ≡ Err place → AreLower numbers number place
-  lower_missed is = let none = missed is in record {
-    inside = none.0;
-    lower = none.1;
-    rest = λ k from to. let e = none.2 k from to in omega (arith, e);
-  }
-
-  pub not_there : r ≡ Err place → Contains numbers number → ⊥
-  not_there is has =
-      let none = missed is in
-      let at : get_or numbers has.0 0 ≡ number = same_default numbers has.0 0 number has.1 ∙ has.2 in
-      ⊎_elim
-      (λ (less : has.0 < place). let e = none.1 has.0 less in omega (arith, e, at))
-      (λ (rest : place ≤ has.0). let e = none.2 has.0 rest has.1 in omega (arith, e, at))
-      (below_or_not has.0 place)
 
 -- what stands at a place is there
 pub has_item : (numbers : List ℕ) (place number : ℕ) → slice_get numbers place ≡ Some number → Contains numbers number

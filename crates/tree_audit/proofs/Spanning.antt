@@ -1,5 +1,5 @@
 -- Full blocks, and keys of their fronts.
-use Rattle.std.proofs.Common.{◌≡◌, ◌<◌, ◌≤◌, ◌+◌, ◌*◌, ◌^◌, ◌⊎◌, ⊎_elim, zero, suc, ℕ, refl, sym, subst, ap, arith}
+use Rattle.std.proofs.Common.{◌≡◌, ◌<◌, ◌≤◌, ◌+◌, ◌*◌, ◌^◌, ⊎_elim, zero, suc, ℕ, refl, sym, subst, ap, arith}
 use Rattle.std.specs.Prelude.{◌↔◌, IsTrue, Bool}
 use Rattle.cell_types.specs.Image.{Image}
 use Rattle.cell_types.specs.Layout.{Layout}
@@ -10,10 +10,8 @@ use Rattle.volume_meaning.proofs.Fronts.{front_holds, one_posting}
 use Rattle.tamper_rules.specs.Rules.{Entries, HoldsInOrder, EndsFront}
 use Rattle.log_audit.specs.Findings.{IsMetAll}
 use Rattle.log_audit.proofs.Deciding.{held_written}
+use Rattle.log_audit.proofs.Orders.{below_or_at}
 use Rattle.tree_audit.specs.Leading.{HasKeyBetween, IsInSpan}
-
-below_or_at : (k n : ℕ) → k < n + 1 → (k < n) ⊎ (k ≡ n)
-below_or_at k n h = grind arith
 
 -- no posting in the first places has a key between these
 abbrev pub NoneBelow : Image → ℕ → ℕ → ℕ → ℕ → Type 0

@@ -15,7 +15,7 @@ use Rattle.volume_meaning.proofs.Holding.{one_record_holds}
 use Rattle.volume_meaning.proofs.OneDocument.{one_document}
 use Rattle.tamper_rules.specs.Rules.{PathRule}
 use Rattle.document_store.proofs.Holding.{stands_held}
-use Rattle.log_audit.proofs.OneMore.{below_or_at}
+use Rattle.log_audit.proofs.Orders.{below_or_at}
 use Rattle.log_audit.proofs.Families.{AreFine}
 use Rattle.tree_audit.specs.ChildCells.{HasChildInPool}
 use Rattle.tree_audit.specs.Paths.{HasRootTrail, IsOther}

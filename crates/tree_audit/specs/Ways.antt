@@ -1,14 +1,8 @@
 -- Child cells as ways between nodes, by the places of these in the row of all of them.
-use Rattle.std.specs.Prelude.{◌≡◌, ◌<◌, ◌≤◌, ◌/◌, ◌%◌, ◌↔◌, ℕ, List, length, slice_get, slice_index, Some, Contains}
+use Rattle.std.specs.Prelude.{◌≡◌, ◌<◌, ◌≤◌, ◌/◌, ◌%◌, ◌↔◌, ℕ, List, length, slice_get, Some, Contains}
 use Rattle.tree_audit.specs.ChildCells.{IsChildPlace}
 use Rattle.tree_audit.specs.declared.child_cells.TheConstants.{TARGET_STEP}
 use Rattle.tree_audit.specs.declared.ways.Way.{Way}
-
--- the numbers before this place are lower, and no other is
-pub record AreLower (numbers : List ℕ) (number place : ℕ) : Type 0 where
-  pub inside : place ≤ length numbers
-  pub lower : (k : ℕ) → k < place → slice_index numbers k < number
-  pub rest : (k : ℕ) → place ≤ k → k < length numbers → number ≤ slice_index numbers k
 
 -- the way begins at this place, among others
 abbrev pub BeginsAt : Way → ℕ → Type 0

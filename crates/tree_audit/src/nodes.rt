@@ -8,9 +8,8 @@ ghost use Rattle.tree_audit.specs.Numbers.{AreAll};
 use crate::child_cells::leads_of;
 use crate::marks::last_marks;
 use crate::rows::{root_row, row_under};
-use crate::ways::place_of;
 use cell_types::{Geometry, NoMemory, memory};
-use log_audit::{KeptCells, numbers_of};
+use log_audit::{KeptCells, numbers_of, place_of};
 use std::alloc::Global;
 use std::collections::BTreeSet;
 

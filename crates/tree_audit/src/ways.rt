@@ -1,10 +1,11 @@
 //! Child cells as ways between nodes, by the places of these in the row of all of them.
-ghost use Rattle.std.specs.Prelude.{◌≡◌, ◌/◌, slice_get, Contains, IfNone, IfOk, IfSome, Some};
+ghost use Rattle.std.specs.Prelude.{◌/◌, Contains, IfNone, IfOk, IfSome};
 ghost use Rattle.std.specs.List.Sorted.{IsStrictlyIncreasing};
-ghost use Rattle.tree_audit.specs.Ways.{AreLower, AreWays, IsWayOf};
+ghost use Rattle.tree_audit.specs.Ways.{AreWays, IsWayOf};
 
 use crate::child_cells::TARGET_STEP;
 use cell_types::{NoMemory, memory};
+use log_audit::{lower_than, place_of};
 use std::alloc::Global;
 use volume_meaning::{NODE_BUCKETS, NODE_CELLS};
 
@@ -51,27 +52,4 @@ fn way_of(nodes: &[u64], lead: u64) -> Option<Way>
         behind,
         target,
     })
-}
-
-/// The place of a number among these, which rise, if it is there.
-pub(crate) fn place_of(numbers: &[u64], number: u64) -> Option<usize>
-    requires { IsStrictlyIncreasing numbers.now }
-    ensures some { IfSome result (λ place. slice_get numbers.now place ≡ Some number) }
-    ensures none { IfNone result (Contains numbers.now number → ⊥) }
-{
-    match numbers.binary_search(&number) {
-        Ok(place) => Some(place),
-        Err(_) => None,
-    }
-}
-
-/// How many of these numbers, which rise, are lower than this one.
-fn lower_than(numbers: &[u64], number: u64) -> usize
-    requires { IsStrictlyIncreasing numbers.now }
-    ensures { AreLower numbers.now number result }
-{
-    match numbers.binary_search(&number) {
-        Ok(place) => place,
-        Err(place) => place,
-    }
 }

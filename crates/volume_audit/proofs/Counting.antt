@@ -3,6 +3,7 @@ use Rattle.std.proofs.Common.{◌≡◌, ◌<◌, ◌≤◌, ◌+◌, ◌⊎◌,
 use Rattle.std.specs.Prelude.{slice_get, get_or}
 use Rattle.std.proofs.lemmas.Option.{slice_get_cases, slice_get_within}
 use Rattle.volume_meaning.specs.Volumes.{IsWritten}
+use Rattle.log_audit.proofs.Orders.{below_or_at}
 use Rattle.log_audit.specs.Cells.{shown_by}
 use Rattle.log_audit.specs.Rows.{AreRows}
 use Rattle.log_audit.specs.declared.written.WrittenCell.{WrittenCell}
@@ -34,9 +35,6 @@ record CountedBelow (rows : List WrittenCell) (number : ℕ) : Type 0 where
   counts : Counts (IsWritten (shown_by rows)) number place
 
 module _ {count : ℕ} {rows : List WrittenCell} (are : AreRows count rows) where
-  below_or_at : (k n : ℕ) → k < n + 1 → (k < n) ⊎ (k ≡ n)
-  below_or_at k n h = grind arith
-
   next_or_later : (a b : ℕ) → a ≤ b → (b ≡ a) ⊎ (a + 1 ≤ b)
   next_or_later a b h = grind arith
 

@@ -1,14 +1,12 @@
 -- What its entry places ask, what those behind its pointers do, and nothing of those between.
-use Rattle.std.proofs.Common.{◌<◌, ◌≤◌, ◌⊎◌, ⊎_elim, ℕ, sym, subst, arith}
+use Rattle.std.proofs.Common.{◌<◌, ◌≤◌, ⊎_elim, sym, subst, arith}
 use Rattle.log_audit.specs.Kept.{image_of_kept}
 use Rattle.log_audit.specs.Least.{FindsPart}
 use Rattle.tamper_rules.specs.Rules.{Entries}
+use Rattle.log_audit.proofs.Orders.{below_or_not}
 use Rattle.log_audit.proofs.Parts.{as_asked, both_parts}
 use Rattle.list_audit.specs.Entries.{BlockAsks, PlacesAsk}
 use Rattle.list_audit.proofs.entries.first_in_block.Goals as goal
-
-split : (k n : ℕ) → (k < n) ⊎ (n ≤ k)
-split k n = grind arith
 
 pub returns : goal.returns
 returns c =
@@ -22,6 +20,6 @@ returns c =
     (λ (past : 128 ≤ place). ⊎_elim
     (λ (pointer : place < 248). record { entry = λ less. absurd (omega (arith, less, past)); blank = pointer })
     (λ (behind : 248 ≤ place). both.1 place behind few at)
-    (split place 248))
-    (split place 128))
+    (below_or_not place 248))
+    (below_or_not place 128))
     (λ cell asked. (λ place low less at. asked place (omega (arith, less)) at, λ place low less at. asked place less at)))

@@ -1,6 +1,6 @@
 -- A child cell that leads to one of the nodes.
 use Rattle.std.proofs.Common.{◌-◌, ◌+◌, ◌%◌, ℕ, subst, arith}
-use Rattle.tree_audit.specs.Ways.{AreLower}
+use Rattle.log_audit.specs.Between.{AreLower}
 use Rattle.tree_audit.proofs.Placing.{begins_at}
 use Rattle.tree_audit.proofs.ways.way_of.Goals as goal
 

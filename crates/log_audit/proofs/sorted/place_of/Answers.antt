@@ -1,8 +1,8 @@
 -- The number is there, or it is not.
 use Rattle.std.proofs.Common.{◌∙◌, ℕ, Some, ap}
 use Rattle.std.proofs.lemmas.Option.{slice_get-get_or}
-use Rattle.tree_audit.proofs.Placing.{found, not_there}
-use Rattle.tree_audit.proofs.ways.place_of.Goals as goal
+use Rattle.log_audit.proofs.Bisecting.{found, not_there}
+use Rattle.log_audit.proofs.sorted.place_of.Goals as goal
 
 pub returns-in-Ok : goal.returns-in-Ok
 returns-in-Ok c =
