@@ -1,9 +1,10 @@
 -- Places among numbers that rise.
-use Rattle.std.proofs.Common.{◌≡◌, ◌<◌, ◌≤◌, ⊎_elim, ℕ, List, length, get_or, sym, ◌∙◌, subst, ap, arith}
-use Rattle.std.specs.Prelude.{Result, Ok, Err, slice_index, Contains}
-use Rattle.std.specs.List.Sorted.{IsBinarySearchResult, IsStrictlyIncreasing}
+use Rattle.std.proofs.Common.{◌≡◌, ◌<◌, ◌≤◌, ⊎_elim, ℕ, List, length, get_or, sym, ◌∙◌, ap, arith}
+use Rattle.std.specs.Prelude.{Result, Ok, Err, IfNone, nat_lt, true, false, slice_index, Contains}
+use Rattle.std.specs.Result.{result_ok}
+use Rattle.std.specs.List.Sorted.{IsBinarySearchResult, IsPartitionPoint, IsPartitionedBy, IsStrictlyIncreasing}
 use Rattle.std.specs.Ordering.{nat_cmp}
-use Rattle.std.proofs.lemmas.Bool.{cases_order}
+use Rattle.std.proofs.lemmas.Bool.{cases_order, lt-ltb, ltb-false, ltb-true}
 use Rattle.std.proofs.lemmas.Grind.{get_or_default_zero}
 use Rattle.std.proofs.lemmas.List.Kept.{AllPairs-from_increasing}
 use Rattle.std.proofs.lemmas.List.Sorted.{searched}
@@ -27,38 +28,35 @@ rises_to numbers rising a b low inside = ⊎_elim
 stands : (numbers : List ℕ) (number : ℕ) (has : Contains numbers number) → slice_index numbers has.0 ≡ number
 stands numbers number has = sym (get_or_default_zero numbers has.0 number has.1) ∙ has.2
 
--- what a search of them finds, and what it says of a number that is not there
-module _ (numbers : List ℕ) (number : ℕ) (rising : IsStrictlyIncreasing numbers) {r : Result ℕ ℕ} {place : ℕ}
-    (position : IsBinarySearchResult (λ (y : ℕ). nat_cmp y number) numbers r) where
-  pub found : r ≡ Ok place → (place < length numbers) × (slice_index numbers place ≡ number)
-  found is = searched numbers number (Ok place) (subst (λ (s : Result ℕ ℕ). IsBinarySearchResult (λ (y : ℕ). nat_cmp y number) numbers s) is position)
-      (rises_to numbers rising)
+-- a number that a search of them does not find is not there
+pub not_found : (numbers : List ℕ) (number : ℕ) → IsStrictlyIncreasing numbers → (r : Result ℕ ℕ)
+    → IsBinarySearchResult (λ (y : ℕ). nat_cmp y number) numbers r → IfNone (result_ok r) (Contains numbers number → ⊥)
+not_found numbers number rising (Ok place) position = tt
+not_found numbers number rising (Err place) position = λ has.
+    let none = searched numbers number (Err place) position (rises_to numbers rising) in
+    let at = stands numbers number has in
+    ⊎_elim
+    (λ (less : has.0 < place). let e = none.1 has.0 less in omega (arith, e, at))
+    (λ (rest : place ≤ has.0). let e = none.2 has.0 rest has.1 in omega (arith, e, at))
+    (below_or_not has.0 place)
 
-  missed : r ≡ Err place
-      → (place ≤ length numbers) × ((k : ℕ) → k < place → get_or numbers k 0 < number) × ((k : ℕ) → place ≤ k → k < length numbers → number < get_or numbers k 0)
-  missed is = searched numbers number (Err place) (subst (λ (s : Result ℕ ℕ). IsBinarySearchResult (λ (y : ℕ). nat_cmp y number) numbers s) is position)
-      (rises_to numbers rising)
+-- the lower ones stand before the others
+pub are_partitioned : (numbers : List ℕ) (number : ℕ) → IsStrictlyIncreasing numbers → IsPartitionedBy (λ (y : ℕ). nat_lt y number) numbers
+are_partitioned numbers number rising i j d low inside passes =
+    let first : get_or numbers i d ≡ get_or numbers i 0 = get_or_default_zero numbers i d (omega (arith, low, inside)) in
+    let second : get_or numbers j d ≡ get_or numbers j 0 = get_or_default_zero numbers j d inside in
+    let e = rises_to numbers rising i j low inside in
+    let less = ltb-true (get_or numbers j d) number passes in
+    lt-ltb (get_or numbers i d) number (omega (arith, first, second, e, less))
 
-  -- the lower ones stand before it
-  pub lower_found : r ≡ Ok place → AreLower numbers number place
-  lower_found is = let at = found is in record {
-    inside = omega (arith, at.0);
-    lower = λ k less. let e = rises numbers rising k place less at.0 in omega (arith, e, at.1);
-    rest = λ k from to. let e = rises_to numbers rising place k from to in omega (arith, e, at.1);
-  }
-
-  pub lower_missed : r ≡ Err place → AreLower numbers number place
-  lower_missed is = let none = missed is in record {
-    inside = none.0;
-    lower = none.1;
-    rest = λ k from to. let e = none.2 k from to in omega (arith, e);
-  }
-
-  pub not_there : r ≡ Err place → Contains numbers number → ⊥
-  not_there is has = let none = missed is in let at = stands numbers number has in ⊎_elim
-      (λ (less : has.0 < place). let e = none.1 has.0 less in omega (arith, e, at))
-      (λ (rest : place ≤ has.0). let e = none.2 has.0 rest has.1 in omega (arith, e, at))
-      (below_or_not has.0 place)
+-- up to the place where they end
+pub lower_end : (numbers : List ℕ) (number place : ℕ) → place ≤ length numbers
+    → IsPartitionPoint (λ (y : ℕ). nat_lt y number ≡ true) (λ (y : ℕ). nat_lt y number ≡ false) numbers place → AreLower numbers number place
+lower_end numbers number place inside point = record {
+  inside = inside;
+  lower = λ k less. ltb-true (slice_index numbers k) number (point.0 k 0 (omega arith) less);
+  rest = λ k from to. ltb-false (slice_index numbers k) number (point.1 k 0 from to);
+}
 
 -- of the numbers from low on the first is the least
 module _ {numbers : List ℕ} {low high place : ℕ} (rising : IsStrictlyIncreasing numbers) (are : AreLower numbers low place) where

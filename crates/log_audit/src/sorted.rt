@@ -38,10 +38,7 @@ pub fn place_of(numbers: &[u64], number: u64) -> Option<usize>
     ensures some { IfSome result (λ place. slice_get numbers.now place ≡ Some number) }
     ensures none { IfNone result (Contains numbers.now number → ⊥) }
 {
-    match numbers.binary_search(&number) {
-        Ok(place) => Some(place),
-        Err(_) => None,
-    }
+    numbers.binary_search(&number).ok()
 }
 
 /// How many of these numbers, which rise, are lower than this one.
@@ -49,10 +46,7 @@ pub fn lower_than(numbers: &[u64], number: u64) -> usize
     requires { IsStrictlyIncreasing numbers.now }
     ensures { AreLower numbers.now number result }
 {
-    match numbers.binary_search(&number) {
-        Ok(place) => place,
-        Err(place) => place,
-    }
+    numbers.partition_point(|other| *other < number)
 }
 
 /// Whether one of these numbers, which rise, lies from `low` on and below `high`.
